@@ -1,0 +1,14 @@
+-- The number of each answer. Every promise about an answer's number cites this table.
+use Prim.Native.Nat.{ℕ}
+use Rattle.message.specs.declared.codes.Code.{Code}
+use Rattle.message.specs.declared.codes.Code.the-variants.{Accepted, Full, Malformed, MissingWords, UnknownOpcode, WrongLength, WrongSource, UnknownRecord}
+
+abbrev pub number : Code → ℕ
+number Accepted = 0
+number Full = 3
+number Malformed = 10
+number MissingWords = 12
+number UnknownOpcode = 13
+number WrongLength = 14
+number WrongSource = 15
+number UnknownRecord = 16
