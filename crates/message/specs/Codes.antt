@@ -1,5 +1,7 @@
 -- The number of each answer. Every promise about an answer's number cites this table.
+use mathlib.Core.Bool.{Bool}
 use Prim.Native.Nat.{ℕ}
+use lib.Dec.{eqb}
 use Rattle.message.specs.declared.codes.Code.{Code}
 use Rattle.message.specs.declared.codes.Code.the-variants.{Accepted, Full, Malformed, MissingWords, UnknownOpcode, WrongLength, WrongSource, UnknownRecord}
 
@@ -12,3 +14,7 @@ number UnknownOpcode = 13
 number WrongLength = 14
 number WrongSource = 15
 number UnknownRecord = 16
+
+-- Whether an answer says that the call was accepted.
+abbrev pub accepted : Code → Bool
+accepted c = eqb (number c) 0

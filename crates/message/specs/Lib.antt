@@ -1,3 +1,4 @@
 pub mod Kinds
 pub mod Codes
 pub mod Messages
+pub mod Checks

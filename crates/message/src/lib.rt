@@ -7,7 +7,13 @@ mod codes;
 mod kinds;
 
 pub use codes::Code;
+pub use codes::CodeDebug;
+pub use codes::CodeEq;
+pub use codes::CodePartialEq;
 pub use kinds::Kind;
+pub use kinds::KindDebug;
+pub use kinds::KindEq;
+pub use kinds::KindPartialEq;
 
 /// A message. Its opcode is a plain number, and its record any 32-bit number, so that a malformed message can be
 /// written down and refused.

@@ -1,0 +1,18 @@
+use mathlib.Core.List.{List}
+use mathlib.Core.Path.{_≡_, _∙_, ap}
+use Prim.Native.Nat.{ℕ}
+use lib.ListN.{length, drop, drop-of-length-le}
+use native.Mathlib.Omega.{arith}
+use borrow.Author.Needs.{needs}
+use Rattle.std.proofs.shelf.Parts.{between-to-end}
+use Rattle.packet.specs.Reading.{front-packet}
+use Rattle.packet.proofs.reader.read.Needs as need
+
+pub returns-then-at-end : need.returns-then-at-end
+returns-then-at-end c =
+    record { value = rw (drop-of-length-le (c .args .words .now) {i = c .args .at} (c .if-at-end .taken)); handed = tt }
+
+pub returns : need.returns
+returns c =
+    let front = between-to-end (c .args .words .now) (c .args .at) (length (c .args .words .now)) (omega arith) in
+    record { value = rw (← front) (c .read-front .ensures .value); handed = rw (← front) (c .read-front .ensures .handed) }

@@ -1,0 +1,61 @@
+-- Packets one after another: what a walk over words finds, and the words of a list of packets.
+use mathlib.Core.Bool.{Bool, true, cond, _&&_}
+use mathlib.Core.List.{List, [], _∷_, _++_}
+use Prim.Native.Nat.{ℕ, zero, suc, _+_, _-_}
+use lib.Dec.{leb}
+use lib.ListN.{length}
+use Rattle.std.specs.declared.option.Option.{Option}
+use Rattle.std.specs.declared.option.Option.the-variants.{Some, None}
+use Rattle.std.specs.declared.result.Result.{Result}
+use Rattle.std.specs.declared.result.Result.the-variants.{Ok, Err}
+use Rattle.message.specs.declared.codes.Code.{Code}
+use Rattle.message.specs.declared.codes.Code.the-variants.{Accepted}
+use Rattle.message.specs.Codes.{accepted}
+use Rattle.packet.specs.declared.Fault.{Fault}
+use Rattle.packet.specs.declared.Packet.{Packet}
+use Rattle.packet.specs.Layout.{packet-words}
+use Rattle.packet.specs.Reading.{packet-at}
+use Rattle.packet.specs.Writing.{sendable, write-code}
+
+-- What a walk over words finds: packets, and then the end of the words or a fault.
+pub record Walk : Type 0 where
+  pub packets : List Packet
+  pub fault : Option Fault
+
+-- The walk that found these packets and then the end.
+abbrev pub ended : List Packet → Walk
+ended ps = record { packets = ps; fault = None }
+
+-- The walk that finds a packet and then goes on.
+abbrev pub onward : Packet → Walk → Walk
+onward p w = record { packets = p ∷ w .packets; fault = w .fault }
+
+-- The walk from a place on, over at most so many packets: the end of the words ends it, and so does a fault.
+abbrev pub walk-from : ℕ → List ℕ → ℕ → Walk
+walk-from zero words at = ended []
+walk-from (suc more) words at =
+    cond (leb (length words) at) (ended [])
+    (elim (packet-at words at) [
+      | Ok p ↦ onward p (walk-from more words (at + length (packet-words p)))
+      | Err f ↦ record { packets = []; fault = Some f }
+    ])
+
+-- The walk over words, which has fewer packets than words.
+abbrev pub walk : List ℕ → Walk
+walk words = walk-from (length words) words 0
+
+-- The words of packets, one after another.
+abbrev pub stream : List Packet → List ℕ
+stream [] = []
+stream (p ∷ ps) = packet-words p ++ stream ps
+
+-- The packets that the writer takes one after another, given the room, up to the first that it refuses.
+abbrev pub taken : List Packet → ℕ → List Packet
+taken [] room = []
+taken (p ∷ ps) room = cond (accepted (write-code p room)) (p ∷ taken ps (room - length (packet-words p))) []
+
+-- The answer to the first packet that it refuses, if there is one.
+abbrev pub stream-code : List Packet → ℕ → Code
+stream-code [] room = Accepted
+stream-code (p ∷ ps) room =
+    cond (accepted (write-code p room)) (stream-code ps (room - length (packet-words p))) (write-code p room)
