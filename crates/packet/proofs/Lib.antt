@@ -1,3 +1,7 @@
 pub mod Bitfields
+pub mod Accepts
 pub mod ReadBack
 pub mod WrittenBack
+pub mod Walks
+pub mod Overlays
+pub mod Sends

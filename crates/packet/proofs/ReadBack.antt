@@ -1,5 +1,5 @@
 -- What is written is read back.
-use mathlib.Core.Bool.{Bool, true, false, cond, _&&_, _||_}
+use mathlib.Core.Bool.{Bool, true, false, cond, _||_}
 use mathlib.Core.List.{List, [], _∷_, _++_}
 use mathlib.Core.Path.{_≡_, _∙_, ap, refl}
 use Prim.Native.Nat.{ℕ, _+_, _*_, _/_, _%_, _^_, _<_}
@@ -10,16 +10,16 @@ use Rattle.std.proofs.shelf.Tests.{and-parts, eqb-true, le-leb}
 use Rattle.std.specs.declared.option.Option.{Option}
 use Rattle.std.specs.declared.option.Option.the-variants.{Some, None}
 use Rattle.std.specs.declared.result.Result.the-variants.{Ok}
-use Rattle.message.specs.declared.codes.Code.the-variants.{Accepted, Full, Malformed, WrongSource}
+use Rattle.message.specs.declared.codes.Code.the-variants.{Accepted}
 use Rattle.message.specs.declared.kinds.Kind.{Kind}
-use Rattle.message.specs.Checks.{given}
 use Rattle.message.specs.Kinds.{kind-of, opcode-of, carries-value, words-of}
 use Rattle.message.specs.Messages.{message-of, formed-as}
 use Rattle.message.proofs.Opcodes.{kind-of-opcode, opcode-of-kind, opcode-small}
 use Rattle.packet.specs.declared.Packet.{Packet}
 use Rattle.packet.specs.Layout.{header, opcode-in, length-in, source-in, value-words, words-as, packet-words, source-fits}
 use Rattle.packet.specs.Reading.{front-packet, packet-at}
-use Rattle.packet.specs.Writing.{sendable-as, sendable, code-as, write-code, written}
+use Rattle.packet.specs.Writing.{sendable-as, sendable, write-code, written}
+use Rattle.packet.proofs.Accepts.{accepted-sendable}
 
 -- A header's fields come out as they went in.
 length-small : (b : Bool) → cond b 4 2 < 2 ^ 8
@@ -62,20 +62,6 @@ written-as (Some k) p at end rest kind can =
 -- What is written is read back, whatever follows it.
 pub written-read : (p : Packet) (at end : ℕ) (rest : List ℕ) → sendable p ≡ true → front-packet at end (packet-words p ++ rest) ≡ Ok p
 written-read p at end rest can = written-as (kind-of (p .message .opcode)) p at end rest refl can
-
--- A packet that is accepted can be sent.
-checks : (formed source room : Bool) → given formed Malformed (given source WrongSource (given room Full Accepted)) ≡ Accepted → (formed && source) ≡ true
-checks true true true took = refl
-checks true true false took = absurd (let z : _≡_ {A = ℕ} 0 1 = cc in omega arith)
-checks true false room took = absurd (let z : _≡_ {A = ℕ} 0 1 = cc in omega arith)
-checks false source room took = absurd (let z : _≡_ {A = ℕ} 0 1 = cc in omega arith)
-
-code-sendable : (o : Option Kind) (p : Packet) (room : ℕ) → code-as o p room ≡ Accepted → sendable-as o p ≡ true
-code-sendable None p room took = absurd (let z : _≡_ {A = ℕ} 0 1 = cc in omega arith)
-code-sendable (Some k) p room took = checks (formed-as (Some k) (p .message)) (source-fits k (p .source)) (leb (words-of k) room) took
-
-pub accepted-sendable : (p : Packet) (room : ℕ) → write-code p room ≡ Accepted → sendable p ≡ true
-accepted-sendable p room took = code-sendable (kind-of (p .message .opcode)) p room took
 
 -- What is accepted is read back at the front of its buffer.
 pub accepted-read : (p : Packet) (buffer : List ℕ) → write-code p (length buffer) ≡ Accepted → packet-at (written p buffer) 0 ≡ Ok p

@@ -3,6 +3,7 @@ ghost use mathlib.Core.Path.{_≡_};
 ghost use lib.ListN.{length};
 ghost use Rattle.std.specs.declared.result.Result.the-variants.{Ok};
 ghost use Rattle.message.specs.declared.codes.Code.the-variants.{Accepted};
+ghost use Rattle.packet.specs.Layout.{packet-words};
 ghost use Rattle.packet.specs.Reading.{packet-at};
 ghost use Rattle.packet.specs.Writing.{sendable, write-code, written};
 use crate::Packet;
@@ -20,6 +21,16 @@ impl Packet {
         match self.message.kind() {
             Some(kind) => self.message.is_well_formed() && fits_source(kind, self.source),
             None => false,
+        }
+    }
+
+    /// How many words it has: none where its opcode is that of no kind.
+    pub fn size(self) -> usize
+        ensures { λ n. ⌜ n ≡ length (packet-words self) ⌝ }
+    {
+        match self.message.kind() {
+            Some(kind) => kind.words(),
+            None => 0,
         }
     }
 
