@@ -6,7 +6,7 @@ use Prim.Native.Nat.{ℕ, _≤_}
 use lib.Dec.{leb}
 use lib.ListN.{length}
 use native.Mathlib.Omega.{arith}
-use Rattle.std.proofs.shelf.Tests.{leb-true}
+use Rattle.std.proofs.shelf.Tests.{le-leb, leb-true}
 use Rattle.std.specs.declared.option.Option.{Option}
 use Rattle.std.specs.declared.option.Option.the-variants.{Some, None}
 use Rattle.message.specs.declared.codes.Code.the-variants.{Accepted, Full, Malformed, WrongSource}
@@ -20,7 +20,7 @@ use Rattle.packet.specs.Writing.{code-as, sendable-as, sendable, write-code}
 
 -- The writer's three checks, all passed.
 passed : (formed source room : Bool) → given formed Malformed (given source WrongSource (given room Full Accepted)) ≡ Accepted
-  → ((formed && source) ≡ true) × (room ≡ true)
+    → ((formed && source) ≡ true) × (room ≡ true)
 passed true true true took = (refl, refl)
 passed true true false took = absurd (let z : _≡_ {A = ℕ} 0 1 = cc in omega arith)
 passed true false room took = absurd (let z : _≡_ {A = ℕ} 0 1 = cc in omega arith)
@@ -56,3 +56,18 @@ some-as (Some k) p can = rw (size-as (carries-value k)) (two-or-four (carries-va
 
 pub sendable-some : (p : Packet) → sendable p ≡ true → 2 ≤ length (packet-words p)
 sendable-some p can = some-as (kind-of (p .message .opcode)) p can
+
+-- What can be sent, and has room, is accepted.
+all-pass : (formed source room : Bool) → (formed && source) ≡ true → room ≡ true
+    → given formed Malformed (given source WrongSource (given room Full Accepted)) ≡ Accepted
+all-pass true true room can fits = rw fits
+all-pass true false room can fits = absurd (let z : _≡_ {A = ℕ} 0 1 = cc in omega arith)
+all-pass false source room can fits = absurd (let z : _≡_ {A = ℕ} 0 1 = cc in omega arith)
+
+accepts-as : (o : Option Kind) (p : Packet) (room : ℕ) → sendable-as o p ≡ true → length (words-as o p) ≤ room → code-as o p room ≡ Accepted
+accepts-as None p room can fits = absurd (let z : _≡_ {A = ℕ} 0 1 = cc in omega arith)
+accepts-as (Some k) p room can fits =
+    all-pass (formed-as (Some k) (p .message)) (source-fits k (p .source)) (leb (words-of k) room) can (le-leb (words-of k) room (rw (size-as (carries-value k)) at fits))
+
+pub sendable-accepted : (p : Packet) (room : ℕ) → sendable p ≡ true → length (packet-words p) ≤ room → write-code p room ≡ Accepted
+sendable-accepted p room can fits = accepts-as (kind-of (p .message .opcode)) p room can fits

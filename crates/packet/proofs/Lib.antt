@@ -5,3 +5,4 @@ pub mod WrittenBack
 pub mod Walks
 pub mod Overlays
 pub mod Sends
+pub mod Rewrites

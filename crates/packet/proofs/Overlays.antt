@@ -27,8 +27,8 @@ unfilled old = record { within = omega arith; same = refl; long = refl }
 
 -- Words at that place fill it further.
 pub filled-on : (old out words : List ℕ) (at : ℕ) → Filled old out at → length words ≤ length old - at
-  → Filled old (take at out ++ laid-over words (drop at out)) (at + length words)
-  × (take (at + length words) (take at out ++ laid-over words (drop at out)) ≡ take at out ++ words)
+    → Filled old (take at out ++ laid-over words (drop at out)) (at + length words)
+    × (take (at + length words) (take at out ++ laid-over words (drop at out)) ≡ take at out ++ words)
 filled-on old out words at filled room =
     let size = length words in
     let front = take at out ++ words in
@@ -38,13 +38,14 @@ filled-on old out words at filled room =
     let joined : take at out ++ laid-over words (drop at out) ≡ front ++ back = sym (append-assoc (take at out) words back) in
     let rest : back ≡ drop (at + size) old = ap (drop size) (filled .same) ∙ drop-drop size at old in
     let left = length-drop (at + size) old in
-    let whole = length-append front back in
-    (record {
-      within = omega arith;
-      same = ap (drop (at + size)) joined ∙ drop-at front back (at + size) long ∙ rest;
-      long = ap length joined ∙ whole ∙ omega (arith, long, ap length rest, left);
-    },
-     ap (take (at + size)) joined ∙ take-at front back (at + size) long)
+    let whole = length-append front back in (
+      record {
+        within = omega arith;
+        same = ap (drop (at + size)) joined ∙ drop-at front back (at + size) long ∙ rest;
+        long = ap length joined ∙ whole ∙ omega (arith, long, ap length rest, left);
+      },
+      ap (take (at + size)) joined ∙ take-at front back (at + size) long,
+    )
 
 -- What a filled buffer holds.
 pub filled-is : (old out words : List ℕ) (at : ℕ) → Filled old out at → take at out ≡ words → (length words ≡ at) × (out ≡ laid-over words old)

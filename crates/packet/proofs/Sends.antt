@@ -44,24 +44,25 @@ sending ps old =
 taken-sendable : (ps : List Packet) (room : ℕ) → all-sendable (taken ps room) ≡ true
 taken-sendable [] room = refl
 taken-sendable (p ∷ ps) room =
-    elim (accepted (write-code p room)) as (λ b. accepted (write-code p room) ≡ b → all-sendable (cond b (p ∷ taken ps (room - length (packet-words p))) []) ≡ true)
-    [ true ↦ λ took. rw (accepted-sendable p room (accepted-only (write-code p room) took), taken-sendable ps (room - length (packet-words p)))
-    | false ↦ λ left. refl ] refl
+    elim (accepted (write-code p room)) as (λ b. accepted (write-code p room) ≡ b → all-sendable (cond b (p ∷ taken ps (room - length (packet-words p))) []) ≡ true) [
+      | true ↦ λ took. rw (accepted-sendable p room (accepted-only (write-code p room) took), taken-sendable ps (room - length (packet-words p)))
+      | false ↦ λ left. refl
+    ] refl
 
 -- A buffer whose written front is the whole stream.
 sent : (ps : List Packet) (old out : List ℕ) (c : Code) (at : ℕ) → Filled old out at → take at out ≡ stream (taken ps (length old))
-  → c ≡ stream-code ps (length old) → Sent ps old out c at
+    → c ≡ stream-code ps (length old) → Sent ps old out c at
 sent ps old out c at filled is code =
     let held = filled-is old out (stream (taken ps (length old))) at filled is in
     record { code = code; count = sym (held .0); words = held .1; back = rw is (streams-read-back (taken ps (length old)) (taken-sendable ps (length old))) }
 
 -- One packet more that is accepted.
 taken-on : (p : Packet) (ps : List Packet) (room : ℕ) → accepted (write-code p room) ≡ true
-  → (stream (taken (p ∷ ps) room) ≡ packet-words p ++ stream (taken ps (room - length (packet-words p)))) × (stream-code (p ∷ ps) room ≡ stream-code ps (room - length (packet-words p)))
+    → (stream (taken (p ∷ ps) room) ≡ packet-words p ++ stream (taken ps (room - length (packet-words p)))) × (stream-code (p ∷ ps) room ≡ stream-code ps (room - length (packet-words p)))
 taken-on p ps room took = (rw took, rw took)
 
 went-on : (ps : List Packet) (old out : List ℕ) (i at : ℕ) (p : Packet) → Sending ps old out i at → drop i ps ≡ p ∷ drop (i + 1) ps
-  → accepted (write-code p (length out - at)) ≡ true → Sending ps old (take at out ++ written p (drop at out)) (i + 1) (at + length (packet-words p))
+    → accepted (write-code p (length out - at)) ≡ true → Sending ps old (take at out ++ written p (drop at out)) (i + 1) (at + length (packet-words p))
 went-on ps old out i at p before next took =
     let size = length (packet-words p) in
     let room = length old - at in
@@ -72,46 +73,46 @@ went-on ps old out i at p before next took =
     let more = taken-on p (drop (i + 1) ps) room same in
     let rest : length old - (at + size) ≡ room - size = omega arith in
     let tail : stream (taken (drop i ps) room) ≡ packet-words p ++ stream (taken (drop (i + 1) ps) (length old - (at + size))) =
-        ap (λ (qs : List Packet). stream (taken qs room)) next ∙ more .0 ∙ ap (λ (n : ℕ). packet-words p ++ stream (taken (drop (i + 1) ps) n)) (sym rest) in
+    ap (λ (qs : List Packet). stream (taken qs room)) next ∙ more .0 ∙ ap (λ (n : ℕ). packet-words p ++ stream (taken (drop (i + 1) ps) n)) (sym rest) in
     subst (λ (buffer : List ℕ). Sending ps old (take at out ++ buffer) (i + 1) (at + size)) put
     (record {
       filled = step .0;
       words =
-        ap (λ (front : List ℕ). front ++ stream (taken (drop (i + 1) ps) (length old - (at + size)))) (step .1)
-        ∙ append-assoc (take at out) (packet-words p) (stream (taken (drop (i + 1) ps) (length old - (at + size))))
-        ∙ ap (λ (back : List ℕ). take at out ++ back) (sym tail)
-        ∙ before .words;
+          ap (λ (front : List ℕ). front ++ stream (taken (drop (i + 1) ps) (length old - (at + size)))) (step .1)
+          ∙ append-assoc (take at out) (packet-words p) (stream (taken (drop (i + 1) ps) (length old - (at + size))))
+          ∙ ap (λ (back : List ℕ). take at out ++ back) (sym tail)
+          ∙ before .words;
       code = ap (stream-code (drop (i + 1) ps)) rest ∙ sym (more .1) ∙ ap (λ (qs : List Packet). stream-code qs room) (sym next) ∙ before .code;
     })
 
 pub sending-on : (ps : List Packet) (old out after : List ℕ) (i at size : ℕ) (c : Code) → Sending ps old out i at → i < length ps
-  → after ≡ take at out ++ written (getD ps i zeros) (drop at out) → c ≡ write-code (getD ps i zeros) (length out - at) → true ≡ accepted c
-  → size ≡ length (packet-words (getD ps i zeros)) → Sending ps old after (i + 1) (at + size)
+    → after ≡ take at out ++ written (getD ps i zeros) (drop at out) → c ≡ write-code (getD ps i zeros) (length out - at) → true ≡ accepted c
+    → size ≡ length (packet-words (getD ps i zeros)) → Sending ps old after (i + 1) (at + size)
 sending-on ps old out after i at size c before here words code took long =
     rw (words, long) (went-on ps old out i at (getD ps i zeros) before (drop-more ps i zeros here) (sym (took ∙ ap accepted code)))
 
 -- A packet that is refused ends it.
 taken-not : (p : Packet) (ps : List Packet) (room : ℕ) → accepted (write-code p room) ≡ false
-  → (taken (p ∷ ps) room ≡ []) × (stream-code (p ∷ ps) room ≡ write-code p room)
+    → (taken (p ∷ ps) room ≡ []) × (stream-code (p ∷ ps) room ≡ write-code p room)
 taken-not p ps room refused = (rw refused, rw refused)
 
 stopped : (ps : List Packet) (old out : List ℕ) (i at : ℕ) (p : Packet) → Sending ps old out i at → drop i ps ≡ p ∷ drop (i + 1) ps
-  → accepted (write-code p (length out - at)) ≡ false → Sent ps old (take at out ++ written p (drop at out)) (write-code p (length out - at)) at
+    → accepted (write-code p (length out - at)) ≡ false → Sent ps old (take at out ++ written p (drop at out)) (write-code p (length out - at)) at
 stopped ps old out i at p before next refused =
     let room : length out - at ≡ length old - at = ap (λ (n : ℕ). n - at) (before .filled .long) in
     let none = taken-not p (drop (i + 1) ps) (length out - at) refused in
     let left : drop at out ≡ written p (drop at out) = rw (length-drop at out, refused) in
     let front : take at out ≡ stream (taken ps (length old)) =
-        sym (append-nil (take at out))
-        ∙ ap (λ (qs : List Packet). take at out ++ stream qs) (sym (none .0) ∙ ap (taken (p ∷ drop (i + 1) ps)) room ∙ ap (λ (qs : List Packet). taken qs (length old - at)) (sym next))
-        ∙ before .words in
+    sym (append-nil (take at out))
+    ∙ ap (λ (qs : List Packet). take at out ++ stream qs) (sym (none .0) ∙ ap (taken (p ∷ drop (i + 1) ps)) room ∙ ap (λ (qs : List Packet). taken qs (length old - at)) (sym next))
+    ∙ before .words in
     let code = sym (none .1) ∙ ap (stream-code (p ∷ drop (i + 1) ps)) room ∙ ap (λ (qs : List Packet). stream-code qs (length old - at)) (sym next) ∙ before .code in
     subst (λ (buffer : List ℕ). Sent ps old buffer (write-code p (length out - at)) at)
     (sym (take-append-drop at out) ∙ ap (λ (back : List ℕ). take at out ++ back) left)
     (sent ps old out (write-code p (length out - at)) at (before .filled) front code)
 
 pub sending-stopped : (ps : List Packet) (old out after : List ℕ) (i at : ℕ) (c : Code) → Sending ps old out i at → i < length ps
-  → after ≡ take at out ++ written (getD ps i zeros) (drop at out) → c ≡ write-code (getD ps i zeros) (length out - at) → false ≡ accepted c → Sent ps old after c at
+    → after ≡ take at out ++ written (getD ps i zeros) (drop at out) → c ≡ write-code (getD ps i zeros) (length out - at) → false ≡ accepted c → Sent ps old after c at
 sending-stopped ps old out after i at c before here words code refused =
     rw (words, code) (stopped ps old out i at (getD ps i zeros) before (drop-more ps i zeros here) (sym (refused ∙ ap accepted code)))
 

@@ -15,8 +15,8 @@ mod writer;
 
 pub use reader::Reader;
 pub use reader::read;
+pub use streams::rewrite;
 pub use streams::write_all;
-
 
 /// A message and the source that its packet names: the terminal for what goes to the home, 64 for what comes from it.
 #[derive(Clone, Copy, PartialEq, Eq, Debug)]

@@ -3,9 +3,12 @@ ghost use mathlib.Core.List.{_++_};
 ghost use mathlib.Core.Path.{_≡_};
 ghost use Prim.Native.Nat.{_-_, _≤_};
 ghost use lib.ListN.{drop, length, take};
-ghost use Rattle.packet.specs.Streams.{ended, stream, stream-code, taken, walk, written-all};
-ghost use Rattle.packet.specs.Writing.{write-code, written};
+ghost use Rattle.std.specs.Vec.{made};
+ghost use Rattle.packet.specs.Streams.{ended, rewrite-answer, rewritten, stream, stream-code, taken, walk, written-all};
+ghost use Rattle.packet.specs.Writing.{laid-over, write-code, written};
+use crate::Fault;
 use crate::Packet;
+use crate::Reader;
 use message::Code;
 
 /// Writes a packet at a place of a buffer.
@@ -34,4 +37,29 @@ pub fn write_all(packets: &[Packet], out: &mut [u32]) -> (Code, usize)
         at += packet.size();
     }
     (Code::Accepted, at)
+}
+
+/// Walks words and writes the packets that it finds again, one after another, to the front of a buffer that is at least as
+/// long. It answers how many there were, or the fault that stopped it; words that are accepted to the end are then in the
+/// buffer word for word.
+pub fn rewrite(words: &[u32], out: &mut [u32]) -> Result<usize, Fault>
+    ensures answer { λ r. ⌜ r ≡ rewrite-answer (now (words .entry)) (length (now (out .entry))) ⌝ }
+    ensures words { λ _. ⌜ now (out .exit) ≡ rewritten (now (words .entry)) (now (out .entry)) ⌝ }
+    ensures same { λ r. ⌜ made r (λ _. now (out .exit) ≡ laid-over (now (words .entry)) (now (out .entry))) ⌝ }
+{
+    if out.len() < words.len() {
+        return Err(Fault {
+            code: Code::Full,
+            place: out.len(),
+        });
+    }
+    let mut reader = Reader::new(words);
+    let mut count = 0;
+    while !reader.is_at_end() {
+        let at = reader.place();
+        let found = reader.next()?;
+        let _ = write_at(found.packet, out, at);
+        count += 1;
+    }
+    Ok(count)
 }
