@@ -49,9 +49,11 @@ pub record Standing (text before : List ℕ) (i : ℕ) (buffer : List ℕ) (coun
   pub lines : p .lines ≤ i
   pub bytes : p .bytes ≤ i
 
--- The same place by other names.
-pub renamed : (text before : List ℕ) (i : ℕ) (buffer other : List ℕ) (count n : ℕ) (w v : Word) (p q : Passed) → Standing text before i buffer count w p → other ≡ buffer → n ≡ count → v ≡ w → q ≡ p → Standing text before i other n v q
-renamed text before i buffer other count n w v p q s eb en ew ep = rw (eb, en, ew, ep) s
+-- The loop begins with no words, no word and nothing behind.
+pub at-start : (text before : List ℕ) (w : Word) → w ≡ no-word → Standing text before 0 before 0 w (record { lines = 0; bytes = 0 })
+unfolding reading
+at-start text before w e =
+    rw e (record { reads = refl; rest = refl; room = omega arith; range = omega arith; lines = omega arith; bytes = omega arith })
 
 -- What is behind grows by one at most.
 past-lines : (p : Passed) (b i : ℕ) → p .lines ≤ i → past p b .lines ≤ i + 1
@@ -59,36 +61,6 @@ past-lines p b i h = grind (arith, tells)
 
 past-bytes : (p : Passed) (b i : ℕ) → p .bytes ≤ i → past p b .bytes ≤ i + 1
 past-bytes p b i h = grind (arith, tells)
-
--- White space ends the word.
-pub white-more : (text before : List ℕ) (i : ℕ) (buffer : List ℕ) (count : ℕ) (w : Word) (p : Passed) (after : List ℕ) (n : ℕ) → Standing text before i buffer count w p → i < length text → white (getD text i 0) ≡ true → Ends w buffer count after n → Standing text before (i + 1) after n no-word (past p (getD text i 0))
-white-more text before i buffer count w p after n s h e d =
-    let more : read-on (take count buffer) w p (drop i text) ≡ read-on (ended (take count buffer) w) no-word (past p (getD text i 0)) (drop (i + 1) text) = at-drop-more (read-on (take count buffer) w p) text i 0 h ∙ rw e in
-    let words = d .words in
-    let later : count ≤ n = grind (arith, tells, d .counted) in
-    let few : n ≤ count + w .digits = grind (arith, tells, d .counted) in
-    record {
-      reads = rw words (sym more ∙ s .reads);
-      rest = d .rest ∙ drop-further buffer before count n later (s .rest);
-      room = omega arith;
-      range = omega arith;
-      lines = past-lines p (getD text i 0) i (s .lines);
-      bytes = past-bytes p (getD text i 0) i (s .bytes);
-    }
-
--- A digit goes onto the word.
-pub digit-more : (text before : List ℕ) (i : ℕ) (buffer : List ℕ) (count : ℕ) (w longer : Word) (p : Passed) → Standing text before i buffer count w p → i < length text → white (getD text i 0) ≡ false → lengthened w (getD text i 0) ≡ Some longer → In-range longer → Standing text before (i + 1) buffer count longer (past p (getD text i 0))
-digit-more text before i buffer count w longer p s h e l range =
-    let more : read-on (take count buffer) w p (drop i text) ≡ read-on (take count buffer) longer (past p (getD text i 0)) (drop (i + 1) text) = at-drop-more (read-on (take count buffer) w p) text i 0 h ∙ rw (e, l) in
-    let one : longer .digits ≡ w .digits + 1 = grind (arith, tells) in
-    record {
-      reads = sym more ∙ s .reads;
-      rest = s .rest;
-      room = omega arith;
-      range = range;
-      lines = past-lines p (getD text i 0) i (s .lines);
-      bytes = past-bytes p (getD text i 0) i (s .bytes);
-    }
 
 -- What a call has to show in the end: its answer, and what the buffer holds.
 pub record Outcome (text before after : List ℕ) (r : Result ℕ TextFault) : Type 0 where
@@ -104,21 +76,55 @@ outcome text before after n r h e words short rest =
       buffer = rw (room, e, words, count, ← rest) (sym (take-append-drop n after));
     }
 
--- Any other byte stops the reading.
-pub stray-here : (text before : List ℕ) (i : ℕ) (buffer : List ℕ) (count : ℕ) (w : Word) (p : Passed) → Standing text before i buffer count w p → length text ≤ length before → length buffer ≡ length before → i < length text → white (getD text i 0) ≡ false → lengthened w (getD text i 0) ≡ None → Outcome text before buffer (Err (stray-at p))
-stray-here text before i buffer count w p s long same h e l =
-    let here : read-on (take count buffer) w p (drop i text) ≡ stopped (take count buffer) p = at-drop-more (read-on (take count buffer) w p) text i 0 h ∙ rw (e, l) in
-    outcome text before buffer count (stopped (take count buffer) p) long (sym (s .reads) ∙ here) refl (omega arith) (s .rest)
+module _ {text before : List ℕ} {i : ℕ} {buffer : List ℕ} {count : ℕ} {w : Word} {p : Passed} (s : Standing text before i buffer count w p) where
+  -- The same place by other names.
+  pub renamed : {other : List ℕ} {n : ℕ} {v : Word} {q : Passed} → other ≡ buffer → n ≡ count → v ≡ w → q ≡ p → Standing text before i other n v q
+  renamed eb en ew ep = rw (eb, en, ew, ep) s
 
--- The end of the text ends the word.
-pub all-read : (text before : List ℕ) (i : ℕ) (buffer : List ℕ) (count : ℕ) (w : Word) (p : Passed) (after : List ℕ) (n : ℕ) → Standing text before i buffer count w p → length text ≤ length before → length after ≡ length before → i ≤ length text → length text ≤ i → Ends w buffer count after n → Outcome text before after (Ok n)
-all-read text before i buffer count w p after n s long same within done d =
-    let here : read-on (take count buffer) w p (drop i text) ≡ complete (ended (take count buffer) w) = at-drop-all (read-on (take count buffer) w p) text i done in
-    let later : count ≤ n = grind (arith, tells, d .counted) in
-    let few : n ≤ count + w .digits = grind (arith, tells, d .counted) in
-    let short : n ≤ length after = omega arith in
-    let words = d .words in
-    let length-words : length (take n after) ≡ n = length-take-le n after short in
-    let read : reading text ≡ complete (take n after) = sym (s .reads) ∙ here ∙ rw words in
-    let o = outcome text before after n (complete (take n after)) long read refl short (d .rest ∙ drop-further buffer before count n later (s .rest)) in
-    rw length-words at o
+  -- White space ends the word.
+  pub white-more : {after : List ℕ} {n : ℕ} → i < length text → white (getD text i 0) ≡ true → Ends w buffer count after n → Standing text before (i + 1) after n no-word (past p (getD text i 0))
+  white-more {after} {n} h e d =
+      let words = d .words in
+      let later : count ≤ n = grind (arith, tells, d .counted) in
+      let few : n ≤ count + w .digits = grind (arith, tells, d .counted) in
+      let more : read-on (take count buffer) w p (drop i text) ≡ read-on (take n after) no-word (past p (getD text i 0)) (drop (i + 1) text) = at-drop-more (read-on (take count buffer) w p) text i 0 h ∙ rw (e, words) in
+      record {
+        reads = sym more ∙ s .reads;
+        rest = d .rest ∙ drop-further buffer before count n later (s .rest);
+        room = omega arith;
+        range = omega arith;
+        lines = past-lines p (getD text i 0) i (s .lines);
+        bytes = past-bytes p (getD text i 0) i (s .bytes);
+      }
+
+  -- A digit goes onto the word.
+  pub digit-more : {longer : Word} → i < length text → white (getD text i 0) ≡ false → lengthened w (getD text i 0) ≡ Some longer → In-range longer → Standing text before (i + 1) buffer count longer (past p (getD text i 0))
+  digit-more {longer} h e l range =
+      let more : read-on (take count buffer) w p (drop i text) ≡ read-on (take count buffer) longer (past p (getD text i 0)) (drop (i + 1) text) = at-drop-more (read-on (take count buffer) w p) text i 0 h ∙ rw (e, l) in
+      let one : longer .digits ≡ w .digits + 1 = grind (arith, tells) in
+      record {
+        reads = sym more ∙ s .reads;
+        rest = s .rest;
+        room = omega arith;
+        range = range;
+        lines = past-lines p (getD text i 0) i (s .lines);
+        bytes = past-bytes p (getD text i 0) i (s .bytes);
+      }
+
+  -- Any other byte stops the reading.
+  pub stray-here : length text ≤ length before → length buffer ≡ length before → i < length text → white (getD text i 0) ≡ false → lengthened w (getD text i 0) ≡ None → Outcome text before buffer (Err (stray-at p))
+  stray-here long same h e l =
+      let here : read-on (take count buffer) w p (drop i text) ≡ stopped (take count buffer) p = at-drop-more (read-on (take count buffer) w p) text i 0 h ∙ rw (e, l) in
+      outcome text before buffer count (stopped (take count buffer) p) long (sym (s .reads) ∙ here) refl (omega arith) (s .rest)
+
+  -- The end of the text ends the word.
+  pub all-read : {after : List ℕ} {n : ℕ} → length text ≤ length before → length after ≡ length before → i ≤ length text → length text ≤ i → Ends w buffer count after n → Outcome text before after (Ok n)
+  all-read {after} {n} long same within done d =
+      let words = d .words in
+      let later : count ≤ n = grind (arith, tells, d .counted) in
+      let few : n ≤ count + w .digits = grind (arith, tells, d .counted) in
+      let short : n ≤ length after = omega arith in
+      let here : read-on (take count buffer) w p (drop i text) ≡ complete (take n after) = at-drop-all (read-on (take count buffer) w p) text i done ∙ rw words in
+      let o = outcome text before after n (complete (take n after)) long (sym (s .reads) ∙ here) refl short (d .rest ∙ drop-further buffer before count n later (s .rest)) in
+      let counted : length (take n after) ≡ n = length-take-le n after short in
+      rw counted at o

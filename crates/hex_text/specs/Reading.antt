@@ -77,7 +77,7 @@ read-on ws w p (b ∷ bs) =
     (by-word (lengthened w b) (λ longer. read-on ws longer (past p b) bs) (stopped ws p))
 
 -- A text is read from its start.
-abbrev pub reading : List ℕ → Reading
+unfoldable pub reading : List ℕ → Reading
 reading text = read-on [] no-word (record { lines = 0; bytes = 0 }) text
 
 -- Words in the front of a buffer; the rest of it is as it was.

@@ -5,6 +5,7 @@ ghost use lib.ListN.{length};
 ghost use Rattle.std.specs.Slices.{found};
 ghost use Rattle.hex_text.specs.Bytes.{white, hex-digit};
 ghost use Rattle.hex_text.specs.Reading.{In-range, no-word, lengthened, past, Ends, stray-at, answer-to, buffer-after};
+ghost use Rattle.hex_text.specs.Writing.{Text-reads-back};
 
 /// Why a text is refused.
 #[derive(Clone, Copy, PartialEq, Eq, Debug)]
@@ -148,4 +149,35 @@ pub fn read_words(text: &[u8], out: &mut [u32]) -> Result<usize, TextFault>
         passed = passed.past(*byte);
     }
     Ok(word.end(out, count))
+}
+
+/// The law of the format, and true: the text that writes each of any words as eight lower-case digits and a line feed
+/// is read as exactly these words.
+pub fn text_reads_back() -> bool
+    ensures { λ _. ⌜ Text-reads-back ⌝ }
+{
+    true
+}
+
+#[cfg(test)]
+mod tests {
+    use super::*;
+    use std::test::*;
+
+    #[test]
+    fn reads_words_between_white_space() -> Result<(), Fail> {
+        let mut out = [7; 20];
+        check_eq(read_words(b"\t1F 00c0FFEE\r\n\n a", &mut out), Ok(3))?;
+        check_eq(&out[..4], &[0x1f, 0xc0_ffee, 0xa, 7])
+    }
+
+    #[test]
+    fn names_the_place_of_a_stray_byte() -> Result<(), Fail> {
+        let mut out = [7; 20];
+        let stray = Err(TextFault::Stray { line: 2, column: 3 });
+        check_eq(read_words(b"12\n34x", &mut out), stray)?;
+        check_eq(&out[..2], &[0x12, 7])?;
+        let ninth = Err(TextFault::Stray { line: 1, column: 9 });
+        check_eq(read_words(b"012345678", &mut out), ninth)
+    }
 }
