@@ -158,26 +158,3 @@ pub fn text_reads_back() -> bool
 {
     true
 }
-
-#[cfg(test)]
-mod tests {
-    use super::*;
-    use std::test::*;
-
-    #[test]
-    fn reads_words_between_white_space() -> Result<(), Fail> {
-        let mut out = [7; 20];
-        check_eq(read_words(b"\t1F 00c0FFEE\r\n\n a", &mut out), Ok(3))?;
-        check_eq(&out[..4], &[0x1f, 0xc0_ffee, 0xa, 7])
-    }
-
-    #[test]
-    fn names_the_place_of_a_stray_byte() -> Result<(), Fail> {
-        let mut out = [7; 20];
-        let stray = Err(TextFault::Stray { line: 2, column: 3 });
-        check_eq(read_words(b"12\n34x", &mut out), stray)?;
-        check_eq(&out[..2], &[0x12, 7])?;
-        let ninth = Err(TextFault::Stray { line: 1, column: 9 });
-        check_eq(read_words(b"012345678", &mut out), ninth)
-    }
-}
