@@ -1,5 +1,5 @@
 -- The text of words is read as these words: digit by digit, and then word by word.
-use mathlib.Core.Path.{_≡_, refl, sym, ap, _∙_}
+use mathlib.Core.Path.{_≡_, sym, ap, _∙_}
 use mathlib.Core.Bool.{true, false}
 use mathlib.Core.List.{List, [], _∷_, _++_}
 use Prim.Native.Nat.{ℕ, zero, suc, _+_, _*_, _/_, _%_, _^_, _<_, _≤_}
@@ -11,7 +11,6 @@ use Rattle.std.proofs.shelf.Tests.{lt-ltb}
 use Rattle.std.proofs.shelf.Ways.{tells}
 use Rattle.std.specs.declared.option.Option.the-variants.{Some}
 use Rattle.std.specs.shelf.Lists.{All}
-use Rattle.hex_text.specs.declared.Word.{Word}
 use Rattle.hex_text.specs.declared.Passed.{Passed}
 use Rattle.hex_text.specs.Bytes.{white, hex-digit}
 use Rattle.hex_text.specs.Reading.{no-word, complete, read-on, reading}
@@ -53,7 +52,7 @@ digits-read (suc k) n ws p rest few range =
 words-read : (vs ws : List ℕ) (p : Passed) → All (λ w. w < 2 ^ 32) ws → read-on vs no-word p (text-of ws) ≡ complete (vs ++ ws)
 words-read vs [] p small = ap complete (sym (append-nil vs))
 words-read vs (w ∷ ws) p small =
-    digits-read 8 w vs p (10 ∷ text-of ws) (omega arith) (small .0)
+    digits-read 8 w vs p (10 ∷ text-of ws) (omega arith) (omega (arith, small .0))
     ∙ words-read (vs ++ (w ∷ [])) ws _ (small .1)
     ∙ ap complete (append-assoc vs (w ∷ []) ws)
 

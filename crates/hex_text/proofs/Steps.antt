@@ -1,12 +1,12 @@
 -- The loop over a text: where it stands after some bytes, one byte more, and its ends.
 use mathlib.Core.Path.{_≡_, refl, sym, ap, _∙_}
-use mathlib.Core.Bool.{true, false, cond}
-use mathlib.Core.List.{List, _++_}
+use mathlib.Core.Bool.{true, false}
+use mathlib.Core.List.{List}
 use Prim.Native.Nat.{ℕ, _+_, _-_, _*_, _^_, _<_, _≤_}
 use native.Mathlib.Nat.{pow-le-pow-right, pow-suc}
 use native.Mathlib.Numerals.{add-one}
 use native.Mathlib.Omega.{arith}
-use lib.Dec.{eqb, ltb}
+use lib.Dec.{ltb}
 use lib.ListN.{length, take, drop, getD}
 use Rattle.std.proofs.shelf.Lists.{at-drop-more, at-drop-all, drop-drop, length-take-le, take-append-drop}
 use Rattle.std.proofs.shelf.Tests.{le-ltb}
@@ -18,7 +18,8 @@ use Rattle.hex_text.specs.declared.TextFault.{TextFault}
 use Rattle.hex_text.specs.declared.Word.{Word}
 use Rattle.hex_text.specs.declared.Passed.{Passed}
 use Rattle.hex_text.specs.Bytes.{white}
-use Rattle.hex_text.specs.Reading.{In-range, no-word, lengthened, past, Ends, stray-at, ended, Reading, complete, stopped, read-on, reading, answer-to, buffer-after}
+use Rattle.hex_text.specs.Inner.{In-range, Ends}
+use Rattle.hex_text.specs.Reading.{no-word, lengthened, past, stray-at, Reading, complete, stopped, read-on, reading, answer-to, buffer-after}
 
 -- A word that has room for a digit is below 2^28.
 pub below-room : (digits value : ℕ) → digits < 8 → value < 16 ^ digits → value < 2 ^ 28

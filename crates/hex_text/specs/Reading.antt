@@ -1,10 +1,11 @@
 -- Reading a text: its words, byte by byte, up to its end or to the first byte that no word can take.
-use mathlib.Core.Path.{_≡_}
+-- A Word is what is read of a word so far: how many digits, and the number that they write.
+-- Passed is what of the text is behind: whole lines, and bytes of the line after them.
 use mathlib.Core.Bool.{cond}
 use mathlib.Core.List.{List, [], _∷_, _++_}
-use Prim.Native.Nat.{ℕ, _+_, _*_, _^_, _<_}
+use Prim.Native.Nat.{ℕ, _+_, _*_}
 use lib.Dec.{eqb, ltb}
-use lib.ListN.{length, take, drop}
+use lib.ListN.{length, drop}
 use Rattle.std.specs.declared.option.Option.{Option}
 use Rattle.std.specs.declared.option.Option.the-variants.{Some, None}
 use Rattle.std.specs.declared.result.Result.{Result}
@@ -19,10 +20,6 @@ use Rattle.hex_text.specs.Bytes.{white, hex-digit}
 abbrev pub no-word : Word
 no-word = record { digits = 0; value = 0 }
 
--- A word's number is one that its digits can write.
-abbrev pub In-range : Word → Type 0
-In-range w = w .value < 16 ^ (w .digits)
-
 -- A word with one digit more.
 abbrev pub with-digit : Word → Option ℕ → Option Word
 with-digit w (Some d) = Some (record { digits = w .digits + 1; value = w .value * 16 + d })
@@ -35,12 +32,6 @@ lengthened w b = cond (ltb (w .digits) 8) (with-digit w (hex-digit b)) None
 -- The words read so far, once the word that is being read ends.
 abbrev pub ended : List ℕ → Word → List ℕ
 ended ws w = cond (eqb (w .digits) 0) ws (ws ++ (w .value ∷ []))
-
--- A word ends in a buffer that has some words in front: it comes next if it has a digit, and the rest is as it was.
-pub record Ends (w : Word) (buffer : List ℕ) (count : ℕ) (after : List ℕ) (n : ℕ) : Type 0 where
-  pub counted : n ≡ cond (eqb (w .digits) 0) count (count + 1)
-  pub words : take n after ≡ ended (take count buffer) w
-  pub rest : drop n after ≡ drop n buffer
 
 -- Byte 10 ends a line.
 abbrev pub past : Passed → ℕ → Passed
@@ -59,16 +50,17 @@ pub record Reading : Type 0 where
 abbrev pub complete : List ℕ → Reading
 complete ws = record { words = ws; answer = Ok (length ws) }
 
--- A stray byte stops the reading, and the word that is being read is no word.
+-- A stray byte stops the reading: the words that ended before it stand, and the one that is being read is lost.
 abbrev pub stopped : List ℕ → Passed → Reading
 stopped ws p = record { words = ws; answer = Err (stray-at p) }
 
--- What follows where there is a longer word, and what else.
+-- One reading where there is a longer word, another where there is none.
 abbrev pub by-word : Option Word → (Word → Reading) → Reading → Reading
 by-word (Some w) more otherwise = more w
 by-word None more otherwise = otherwise
 
--- What is left of a text is read on, with the words so far, the word that is being read, and what is behind.
+-- The rest of a text is read on, after the words so far, within a word, with some of the text behind: white space ends
+-- the word, a digit goes onto it, and any other byte is stray.
 abbrev pub read-on : List ℕ → Word → Passed → List ℕ → Reading
 read-on ws w p [] = complete (ended ws w)
 read-on ws w p (b ∷ bs) =

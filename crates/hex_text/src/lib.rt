@@ -4,7 +4,8 @@ ghost use Prim.Native.Nat.{_+_, _^_, _<_};
 ghost use lib.ListN.{length};
 ghost use Rattle.std.specs.Slices.{found};
 ghost use Rattle.hex_text.specs.Bytes.{white, hex-digit};
-ghost use Rattle.hex_text.specs.Reading.{In-range, no-word, lengthened, past, Ends, stray-at, answer-to, buffer-after};
+ghost use Rattle.hex_text.specs.Reading.{no-word, lengthened, past, stray-at, answer-to, buffer-after};
+ghost use Rattle.hex_text.specs.Inner.{In-range, Ends};
 ghost use Rattle.hex_text.specs.Writing.{Text-reads-back};
 
 /// Why a text is refused.
@@ -124,8 +125,8 @@ impl Passed {
 /// Reads the words of a text into the front of a buffer, and answers how many there are.
 ///
 /// A word is one to eight hexadecimal digits, in either case. Spaces, tabs, line feeds and carriage returns stand
-/// between words, and anywhere else. At a byte that no word can take the buffer holds the words that ended before it.
-/// Whatever the answer, the buffer is unchanged after the words.
+/// between words, and anywhere else. At a byte that no word can take, the buffer holds the words that ended before it.
+/// A buffer that is shorter than the text is refused. What of the buffer lies after the words is never changed.
 pub fn read_words(text: &[u8], out: &mut [u32]) -> Result<usize, TextFault>
     ensures answer { λ r. ⌜ r ≡ answer-to (now (text .entry)) (now (out .entry)) ⌝ }
     ensures buffer { λ _. ⌜ now (out .exit) ≡ buffer-after (now (text .entry)) (now (out .entry)) ⌝ }
@@ -151,7 +152,7 @@ pub fn read_words(text: &[u8], out: &mut [u32]) -> Result<usize, TextFault>
     Ok(word.end(out, count))
 }
 
-/// The law of the format, and true: the text that writes each of any words as eight lower-case digits and a line feed
+/// Promises the law of the format: the text that writes each of any words as eight lower-case digits and a line feed
 /// is read as exactly these words.
 pub fn text_reads_back() -> bool
     ensures { λ _. ⌜ Text-reads-back ⌝ }

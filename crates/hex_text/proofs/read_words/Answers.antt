@@ -17,7 +17,7 @@ pub loop-byte-again : need.loop-byte-again
 loop-byte-again c =
     elim (c .if-is-white .came) [
       | then-is-white w ↦
-          renamed (white-more (c .loop-byte .inv) (c .loop-byte-test .taken) (search needs) (w .end-count .ensures))
+          renamed (white-more (c .loop-byte .inv) {after = w .end-count .last .out} {n = w .end-count .result} (c .loop-byte-test .taken) (search needs) (search needs))
           (w .out-is) (w .count-is) (w .word-is ∙ w .none-word-then-is-white .ensures) (c .past-passed .ensures)
       | else-is-white·in-Some w ↦
           renamed (digit-more (c .loop-byte .inv) (c .loop-byte-test .taken) (search needs) (sym (w .lengthen .ensures .value) ∙ w .in-Some .is) (w .in-Some .ensures tt .range))
@@ -26,5 +26,5 @@ loop-byte-again c =
 
 pub returns : need.returns
 returns c =
-    let o = all-read (c .loop-byte .inv) (c .if-out-text .left) (c .end .kept .out ∙ c .loop-byte .kept .out) (c .loop-byte .kept .byte-index-end) (c .loop-byte-test .left) (c .end .ensures) in
+    let o = all-read (c .loop-byte .inv) {after = c .end .last .out} {n = c .end .result} (c .if-out-text .left) (c .end .kept .out ∙ c .loop-byte .kept .out) (c .loop-byte .kept .byte-index-end) (c .loop-byte-test .left) (search needs) in
     record { answer = o .answer; buffer = o .buffer }
