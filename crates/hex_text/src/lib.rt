@@ -127,9 +127,11 @@ impl Passed {
 /// A word is one to eight hexadecimal digits, in either case. Spaces, tabs, line feeds and carriage returns stand
 /// between words, and anywhere else. At a byte that no word can take, the buffer holds the words that ended before it.
 /// A buffer that is shorter than the text is refused. What of the buffer lies after the words is never changed.
+/// The text that writes each of any words as eight lower-case digits and a line feed is read as exactly these words.
 pub fn read_words(text: &[u8], out: &mut [u32]) -> Result<usize, TextFault>
     ensures answer { λ r. ⌜ r ≡ answer-to (now (text .entry)) (now (out .entry)) ⌝ }
     ensures buffer { λ _. ⌜ now (out .exit) ≡ buffer-after (now (text .entry)) (now (out .entry)) ⌝ }
+    ensures law { λ _. ⌜ Text-reads-back ⌝ }
 {
     if out.len() < text.len() {
         return Err(TextFault::Short);
@@ -150,12 +152,4 @@ pub fn read_words(text: &[u8], out: &mut [u32]) -> Result<usize, TextFault>
         passed = passed.past(*byte);
     }
     Ok(word.end(out, count))
-}
-
-/// Promises the law of the format: the text that writes each of any words as eight lower-case digits and a line feed
-/// is read as exactly these words.
-pub fn text_reads_back() -> bool
-    ensures { λ _. ⌜ Text-reads-back ⌝ }
-{
-    true
 }

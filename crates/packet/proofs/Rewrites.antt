@@ -1,5 +1,5 @@
 -- Words that are read and written again.
-use mathlib.Core.Bool.{true}
+use mathlib.Core.Bool.{true, false}
 use mathlib.Core.List.{List, [], _∷_, _++_}
 use mathlib.Core.Path.{_≡_, _∙_, ap, refl, subst, sym}
 use Prim.Native.Nat.{ℕ, suc, _+_, _-_, _≤_, _<_}
@@ -8,8 +8,9 @@ use lib.ListN.{length, take, drop, length-drop}
 use lib.Seq.{take-add}
 use native.Mathlib.Omega.{arith}
 use Rattle.std.proofs.shelf.Lists.{append-assoc, append-nil}
-use Rattle.std.proofs.shelf.Tests.{le-leb}
+use Rattle.std.proofs.shelf.Tests.{le-leb, leb-false, leb-true}
 use Rattle.std.specs.declared.option.Option.the-variants.{None}
+use Rattle.std.specs.declared.result.Result.{Result}
 use Rattle.std.specs.declared.result.Result.the-variants.{Ok, Err}
 use Rattle.packet.specs.declared.Fault.{Fault}
 use Rattle.packet.specs.declared.Packet.{Packet}
@@ -110,3 +111,16 @@ rewriting-stopped words old out at count f before here is =
     let held = written-again words old out at count before (ap (λ (w : Walk). w .packets) stop) in
     let met = sym (before .fault) ∙ ap (λ (w : Walk). w .fault) stop in
     (rw (roomy, met), held .0)
+
+-- What a reader that walks the words has said.
+pub not-at-end : (seen words : List ℕ) (at : ℕ) → seen ≡ words → false ≡ leb (length seen) at → at < length words
+not-at-end seen words at reads said = rw (← reads) (leb-false (length seen) at (sym said))
+
+pub at-end : (seen words : List ℕ) (at : ℕ) → seen ≡ words → true ≡ leb (length seen) at → length words ≤ at
+at-end seen words at reads said = rw (← reads) (leb-true (length seen) at (sym said))
+
+pub read-at : (seen words : List ℕ) (at : ℕ) (answer : Result Packet Fault) → seen ≡ words → answer ≡ packet-at seen at → packet-at words at ≡ answer
+read-at seen words at answer reads said = rw (← reads) (sym said)
+
+pub handed-at : (seen words part : List ℕ) (at : ℕ) (p : Packet) → seen ≡ words → Handed (drop at seen) p part → Handed (drop at words) p part
+handed-at seen words part at p reads handed = rw (← reads) handed

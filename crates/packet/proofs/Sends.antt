@@ -1,5 +1,5 @@
 -- Packets that are written one after another.
-use mathlib.Core.Bool.{true, false, cond, _&&_}
+use mathlib.Core.Bool.{Bool, true, false, cond}
 use mathlib.Core.List.{List, [], _∷_, _++_}
 use mathlib.Core.Path.{_≡_, _∙_, ap, refl, subst, sym}
 use Prim.Native.Nat.{ℕ, _+_, _-_, _≤_, _<_}
@@ -33,12 +33,16 @@ pub record Sent (ps : List Packet) (old out : List ℕ) (c : Code) (n : ℕ) : T
   pub code : c ≡ stream-code ps (length old)
   pub count : n ≡ length (stream (taken ps (length old)))
   pub words : out ≡ written-all ps old
+  pub all : c ≡ Accepted → taken ps (length old) ≡ ps
   pub back : walk (take n out) ≡ ended (taken ps (length old))
 
 pub sending : (ps : List Packet) (old : List ℕ) → Sending ps old old 0 0
 sending ps old =
     let all : length old - 0 ≡ length old = omega arith in
     record { filled = unfilled old; words = ap (λ (room : ℕ). stream (taken ps room)) all; code = ap (stream-code ps) all }
+
+contrary : {b : Bool} → b ≡ false → b ≡ true → ⊥
+contrary no-it it = let z : _≡_ {A = ℕ} 0 1 = cc in omega arith
 
 -- What is taken can be sent.
 taken-sendable : (ps : List Packet) (room : ℕ) → all-sendable (taken ps room) ≡ true
@@ -49,12 +53,21 @@ taken-sendable (p ∷ ps) room =
       | false ↦ λ left. refl
     ] refl
 
+-- Where no packet is refused, all are taken.
+all-taken : (ps : List Packet) (room : ℕ) → stream-code ps room ≡ Accepted → taken ps room ≡ ps
+all-taken [] room whole = refl
+all-taken (p ∷ ps) room whole =
+    elim (accepted (write-code p room)) as (λ b. accepted (write-code p room) ≡ b → taken (p ∷ ps) room ≡ p ∷ ps) [
+      | true ↦ λ took. rw took (ap (λ (qs : List Packet). p ∷ qs) (all-taken ps (room - length (packet-words p)) (rw took at whole)))
+      | false ↦ λ refused. absurd (contrary refused (ap accepted (rw refused at whole)))
+    ] refl
+
 -- A buffer whose written front is the whole stream.
 sent : (ps : List Packet) (old out : List ℕ) (c : Code) (at : ℕ) → Filled old out at → take at out ≡ stream (taken ps (length old))
     → c ≡ stream-code ps (length old) → Sent ps old out c at
 sent ps old out c at filled is code =
     let held = filled-is old out (stream (taken ps (length old))) at filled is in
-    record { code = code; count = sym (held .0); words = held .1; back = rw is (streams-read-back (taken ps (length old)) (taken-sendable ps (length old))) }
+    record { code = code; count = sym (held .0); words = held .1; all = λ whole. all-taken ps (length old) (sym code ∙ whole); back = rw is (streams-read-back (taken ps (length old)) (taken-sendable ps (length old))) }
 
 -- One packet more that is accepted.
 taken-on : (p : Packet) (ps : List Packet) (room : ℕ) → accepted (write-code p room) ≡ true

@@ -8,11 +8,13 @@ use message::MessageDebug;
 use message::MessageEq;
 use message::MessagePartialEq;
 
+mod examples;
 mod fields;
 mod reader;
 mod streams;
 mod writer;
 
+pub use examples::worked_examples;
 pub use reader::Reader;
 pub use reader::read;
 pub use streams::rewrite;

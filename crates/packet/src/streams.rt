@@ -4,6 +4,7 @@ ghost use mathlib.Core.Path.{_≡_};
 ghost use Prim.Native.Nat.{_-_, _≤_};
 ghost use lib.ListN.{drop, length, take};
 ghost use Rattle.std.specs.Vec.{made};
+ghost use Rattle.message.specs.declared.codes.Code.the-variants.{Accepted};
 ghost use Rattle.packet.specs.Streams.{ended, rewrite-answer, rewritten, stream, stream-code, taken, walk, written-all};
 ghost use Rattle.packet.specs.Writing.{laid-over, write-code, written};
 use crate::Fault;
@@ -26,6 +27,7 @@ pub fn write_all(packets: &[Packet], out: &mut [u32]) -> (Code, usize)
     ensures code { λ r. ⌜ r .0 ≡ stream-code (now (packets .entry)) (length (now (out .entry))) ⌝ }
     ensures count { λ r. ⌜ r .1 ≡ length (stream (taken (now (packets .entry)) (length (now (out .entry))))) ⌝ }
     ensures words { λ _. ⌜ now (out .exit) ≡ written-all (now (packets .entry)) (now (out .entry)) ⌝ }
+    ensures all { λ r. ⌜ (r .0 ≡ Accepted → taken (now (packets .entry)) (length (now (out .entry))) ≡ now (packets .entry)) ⌝ }
     ensures back { λ r. ⌜ walk (take (r .1) (now (out .exit))) ≡ ended (taken (now (packets .entry)) (length (now (out .entry)))) ⌝ }
 {
     let mut at = 0;

@@ -1,6 +1,7 @@
 use mathlib.Core.Path.{sym, ap, _∙_}
 use borrow.Author.Needs.{needs}
 use Rattle.std.specs.declared.result.Result.the-variants.{Err}
+use Rattle.hex_text.proofs.Back.{text-back}
 use Rattle.hex_text.proofs.Steps.{at-start, renamed, white-more, digit-more, stray-here, all-read}
 use Rattle.hex_text.proofs.read_words.Needs as need
 use Rattle.hex_text.proofs.read_words.Needs.{then-is-white, else-is-white·in-Some}
@@ -11,7 +12,7 @@ loop-byte-holds c = at-start _ _ _ (c .none-word .ensures)
 pub returns-in-rest : need.returns-in-rest
 returns-in-rest c =
     let o = stray-here (c .loop-byte .inv) (c .if-out-text .left) (c .loop-byte .kept .out) (c .loop-byte-test .taken) (search needs) (sym (c .lengthen .ensures .value) ∙ c .in-rest .is) in
-    record { answer = ap Err (c .stray .ensures) ∙ o .answer; buffer = o .buffer }
+    record { answer = ap Err (c .stray .ensures) ∙ o .answer; buffer = o .buffer; law = text-back }
 
 pub loop-byte-again : need.loop-byte-again
 loop-byte-again c =
@@ -27,4 +28,7 @@ loop-byte-again c =
 pub returns : need.returns
 returns c =
     let o = all-read (c .loop-byte .inv) {after = c .end .last .out} {n = c .end .result} (c .if-out-text .left) (c .end .kept .out ∙ c .loop-byte .kept .out) (c .loop-byte .kept .byte-index-end) (c .loop-byte-test .left) (search needs) in
-    record { answer = o .answer; buffer = o .buffer }
+    record { answer = o .answer; buffer = o .buffer; law = text-back }
+
+pub returns-then-out-text : need.returns-then-out-text
+returns-then-out-text c = record { answer = search needs; buffer = search needs; law = text-back }
