@@ -15,7 +15,7 @@ use Rattle.std.specs.declared.result.Result.the-variants.{Ok, Err}
 use Rattle.packet.specs.declared.Fault.{Fault}
 use Rattle.packet.specs.declared.Packet.{Packet}
 use Rattle.packet.specs.Layout.{packet-words}
-use Rattle.packet.specs.Reading.{Handed, packet-at}
+use Rattle.packet.specs.Reading.{Stands, packet-at}
 use Rattle.packet.specs.Streams.{Walk, rewrite-answer, rewritten, stream, walk, walk-from}
 use Rattle.packet.specs.Writing.{laid-over, written}
 use Rattle.packet.proofs.Accepts.{sendable-accepted}
@@ -49,7 +49,7 @@ rewriting words old roomy =
 
 -- One packet more.
 pub rewriting-on : (words old out after part : List ℕ) (at count : ℕ) (p : Packet) → Rewriting words old out at count → at < length words
-    → packet-at words at ≡ Ok p → Handed (drop at words) p part → after ≡ take at out ++ written p (drop at out)
+    → packet-at words at ≡ Ok p → Stands (drop at words) p part → after ≡ take at out ++ written p (drop at out)
     → Rewriting words old after (at + length (packet-words p)) (count + 1)
 rewriting-on words old out after part at count p before here is handed written-at =
     let size = length (packet-words p) in
@@ -122,5 +122,5 @@ at-end seen words at reads said = rw (← reads) (leb-true (length seen) at (sym
 pub read-at : (seen words : List ℕ) (at : ℕ) (answer : Result Packet Fault) → seen ≡ words → answer ≡ packet-at seen at → packet-at words at ≡ answer
 read-at seen words at answer reads said = rw (← reads) (sym said)
 
-pub handed-at : (seen words part : List ℕ) (at : ℕ) (p : Packet) → seen ≡ words → Handed (drop at seen) p part → Handed (drop at words) p part
+pub handed-at : (seen words part : List ℕ) (at : ℕ) (p : Packet) → seen ≡ words → Stands (drop at seen) p part → Stands (drop at words) p part
 handed-at seen words part at p reads handed = rw (← reads) handed

@@ -15,7 +15,7 @@ use Rattle.std.specs.declared.result.Result.the-variants.{Ok, Err}
 use Rattle.packet.specs.declared.Fault.{Fault}
 use Rattle.packet.specs.declared.Packet.{Packet}
 use Rattle.packet.specs.Layout.{packet-words}
-use Rattle.packet.specs.Reading.{packet-at, front-packet, Handed}
+use Rattle.packet.specs.Reading.{packet-at, front-packet, Stands}
 use Rattle.packet.specs.Streams.{Walk, ended, onward, led-by, walk-from, walk, stream, all-sendable, Streams-read-back}
 use Rattle.packet.specs.Writing.{sendable}
 use Rattle.packet.proofs.Accepts.{sendable-some}

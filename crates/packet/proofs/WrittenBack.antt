@@ -19,7 +19,7 @@ use Rattle.message.proofs.Opcodes.{kind-of-opcode, opcode-of-kind}
 use Rattle.packet.specs.declared.Fault.{Fault}
 use Rattle.packet.specs.declared.Packet.{Packet}
 use Rattle.packet.specs.Layout.{header, opcode-in, length-in, source-in, value-in, value-words, packet-words, source-fits}
-use Rattle.packet.specs.Reading.{said, front-as, front-packet, Handed}
+use Rattle.packet.specs.Reading.{said, front-as, front-packet, Stands}
 
 -- A header is made of its fields.
 whole : (h : ℕ) → source-in h * 2 ^ 16 + length-in h * 2 ^ 8 + opcode-in h ≡ h
@@ -75,7 +75,7 @@ at-least-two false = omega arith
 -- The packet that words say, where they pass every check, is written as these words.
 said-handed : (k : Kind) (front : List ℕ) → Words front → kind-of (opcode-in (getD front 0 0)) ≡ Some k → length-in (getD front 0 0) ≡ words-of k
     → words-of k ≤ length front → source-fits k (source-in (getD front 0 0)) ≡ true → leb (getD front 1 0) 63 ≡ true
-    → Handed front (said k front) (take (words-of k) front)
+    → Stands front (said k front) (take (words-of k) front)
 said-handed k front fit kind long room fits small =
     let h = getD front 0 0 in
     let value = value-in (getD front 2 0) (getD front 3 0) in
@@ -91,7 +91,7 @@ said-handed k front fit kind long room fits small =
     }
 
 handed-as : (o : Option Kind) (at end : ℕ) (front : List ℕ) (p : Packet) → Words front → kind-of (opcode-in (getD front 0 0)) ≡ o
-    → front-as o at end front ≡ Ok p → Handed front p (packet-words p)
+    → front-as o at end front ≡ Ok p → Stands front p (packet-words p)
 handed-as None at end front p fit kind here = absurd (let z : _≡_ {A = ℕ} 0 1 = cc in omega arith)
 handed-as (Some k) at end front p fit kind here =
     let long = passed _ _ _ p here in
@@ -100,9 +100,9 @@ handed-as (Some k) at end front p fit kind here =
     let small = passed _ _ _ p (source .1) in
     let handed = said-handed k front fit kind (eqb-true _ _ (long .0)) (leb-true _ _ (room .0)) (source .0) (small .0) in
     let is = same-packet (said k front) p (small .1) in
-    subst (λ (q : Packet). Handed front q (packet-words q)) is (rw (← handed .again) at handed)
+    subst (λ (q : Packet). Stands front q (packet-words q)) is (rw (← handed .again) at handed)
 
 -- A packet that is read from words of 32 bits is written as these words.
-pub handed-out : (at end : ℕ) (front : List ℕ) (p : Packet) → Words front → front-packet at end front ≡ Ok p → Handed front p (packet-words p)
+pub handed-out : (at end : ℕ) (front : List ℕ) (p : Packet) → Words front → front-packet at end front ≡ Ok p → Stands front p (packet-words p)
 handed-out at end front p fit here =
     handed-as (kind-of (opcode-in (getD front 0 0))) at end front p fit refl (passed _ _ _ p here .1)

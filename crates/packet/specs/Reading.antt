@@ -5,6 +5,7 @@ use mathlib.Core.Path.{_≡_}
 use Prim.Native.Nat.{ℕ, _+_, _≤_}
 use lib.Dec.{eqb, leb}
 use lib.ListN.{length, take, drop, getD}
+use denote.Ref.{now}
 use Rattle.std.specs.declared.option.Option.{Option}
 use Rattle.std.specs.declared.option.Option.the-variants.{Some, None}
 use Rattle.std.specs.declared.result.Result.{Result}
@@ -57,14 +58,18 @@ abbrev pub answer : Result Found Fault → Result Packet Fault
 answer (Ok found) = Ok (found .packet)
 answer (Err f) = Err f
 
--- What holds of a packet that is handed out as a part of the words in front of the reader: the writer takes it, and makes of
--- it just these words.
-pub record Handed (front : List ℕ) (p : Packet) (part : List ℕ) : Type 0 where
+-- What holds of a packet whose words are at the front: the writer takes it, and makes of it just these words.
+pub record Stands (front : List ℕ) (p : Packet) (part : List ℕ) : Type 0 where
   pub sendable : sendable p ≡ true
   pub again : packet-words p ≡ part
   pub there : part ≡ take (length part) front
   pub some : 2 ≤ length part
   pub within : length part ≤ length front
+
+-- What holds of what the reader hands out: the kind is the packet's, and its words are those at the front.
+pub record Handed (front : List ℕ) (f : Found) : Type 0 where
+  pub kind : kind-of (f .packet .message .opcode) ≡ Some (f .kind)
+  pub stands : Stands front (f .packet) (now (f .words))
 
 -- Where a reader stands after its answer: past the packet, or, at a fault, where it stood.
 abbrev pub place-after : ℕ → Result Packet Fault → ℕ

@@ -3,6 +3,7 @@ use message::Code;
 use message::CodeDebug;
 use message::CodeEq;
 use message::CodePartialEq;
+use message::Kind;
 use message::Message;
 use message::MessageDebug;
 use message::MessageEq;
@@ -34,9 +35,10 @@ pub struct Fault {
     pub place: usize,
 }
 
-/// A packet as the reader hands it out: what it says, and the part of the words that it is.
+/// A packet as the reader hands it out: its kind, what it says, and the part of the words that it is.
 #[derive(Clone, Copy)]
 pub struct Found<'a> {
+    pub kind: Kind,
     pub packet: Packet,
     pub words: &'a [u32],
 }

@@ -21,7 +21,7 @@ use message::Message;
 fn read_front(front: &[u32], at: usize, end: usize) -> Result<Found<'_>, Fault>
     requires { ⌜ at + length (now front) ≡ end ⌝ }
     ensures value { λ r. ⌜ answer r ≡ front-packet at end (now (front .entry)) ⌝ }
-    ensures handed { λ r. ⌜ made r (λ f. Handed (now (front .entry)) (f .packet) (now (f .words))) ⌝ }
+    ensures handed { λ r. ⌜ made r (λ f. Handed (now (front .entry)) f) ⌝ }
 {
     let missing = Fault {
         code: Code::MissingWords,
@@ -61,6 +61,7 @@ fn read_front(front: &[u32], at: usize, end: usize) -> Result<Found<'_>, Fault>
         });
     }
     Ok(Found {
+        kind,
         packet: Packet {
             source,
             message: Message::new(kind, record, value),
@@ -72,7 +73,7 @@ fn read_front(front: &[u32], at: usize, end: usize) -> Result<Found<'_>, Fault>
 /// The packet that begins at a place among words, or the first fault there.
 pub fn read(words: &[u32], at: usize) -> Result<Found<'_>, Fault>
     ensures value { λ r. ⌜ answer r ≡ packet-at (now (words .entry)) at ⌝ }
-    ensures handed { λ r. ⌜ made r (λ f. Handed (drop at (now (words .entry))) (f .packet) (now (f .words))) ⌝ }
+    ensures handed { λ r. ⌜ made r (λ f. Handed (drop at (now (words .entry))) f) ⌝ }
 {
     let end = words.len();
     if at >= end {
@@ -117,7 +118,7 @@ impl<'a> Reader<'a> {
     /// The packet that begins here, and past it; a fault leaves the reader where it is.
     pub fn next(&mut self) -> Result<Found<'a>, Fault>
         ensures value { λ r. ⌜ answer r ≡ packet-at (now (now (self .entry) .words)) (now (self .entry) .at) ⌝ }
-        ensures handed { λ r. ⌜ made r (λ f. Handed (drop (now (self .entry) .at) (now (now (self .entry) .words))) (f .packet) (now (f .words))) ⌝ }
+        ensures handed { λ r. ⌜ made r (λ f. Handed (drop (now (self .entry) .at) (now (now (self .entry) .words))) f) ⌝ }
         ensures words { λ _. ⌜ now (now (self .exit) .words) ≡ now (now (self .entry) .words) ⌝ }
         ensures at { λ r. ⌜ now (self .exit) .at ≡ place-after (now (self .entry) .at) (answer r) ⌝ }
     {

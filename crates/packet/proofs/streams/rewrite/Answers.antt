@@ -32,7 +32,7 @@ loop-reader-again c =
     let found = c .in-Continue-found .found in
     let here = not-at-end _ _ _ reads (c .loop-reader-test .ensures tt) in
     let is = read-at _ _ at (Ok (found .packet)) reads (c .in-Continue-found .ensures tt .value) in
-    let handed = handed-at _ _ _ at _ reads (c .in-Continue-found .ensures tt .handed) in
+    let handed = handed-at _ _ _ at _ reads (c .in-Continue-found .ensures tt .handed .stands) in
     let after : c .write-at .last .out ≡ take at (c .loop-reader .out) ++ written (found .packet) (drop at (c .loop-reader .out)) =
     rw (← c .place-at .ensures) (c .write-at .ensures .words) in
     (c .next .ensures .words ∙ reads, rw (c .in-Continue-found .ensures tt .at) (rewriting-on _ _ _ _ _ at _ (found .packet) (c .loop-reader .inv .1) here is handed after))
