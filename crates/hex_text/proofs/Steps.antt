@@ -19,7 +19,7 @@ use Rattle.hex_text.specs.declared.Word.{Word}
 use Rattle.hex_text.specs.declared.Passed.{Passed}
 use Rattle.hex_text.specs.Bytes.{white}
 use Rattle.hex_text.specs.Inner.{In-range, Ends}
-use Rattle.hex_text.specs.Reading.{no-word, lengthened, past, stray-at, Reading, complete, stopped, read-on, reading, answer-to, buffer-after}
+use Rattle.hex_text.specs.Reading.{no-word, lengthened, past, stray-at, Reading, complete, stopped, read-on, reading, longest, answer-to, buffer-after}
 
 -- A word that has room for a digit is below 2^28.
 pub below-room : (digits value : ℕ) → digits < 8 → value < 16 ^ digits → value < 2 ^ 28
@@ -68,13 +68,14 @@ pub record Outcome (text before after : List ℕ) (r : Result ℕ TextFault) : T
   pub answer : r ≡ answer-to text before
   pub buffer : after ≡ buffer-after text before
 
-outcome : (text before after : List ℕ) (n : ℕ) (r : Reading) → length text ≤ length before → reading text ≡ r → r .words ≡ take n after → n ≤ length after → drop n after ≡ drop n before → Outcome text before after (r .answer)
-outcome text before after n r h e words short rest =
+outcome : (text before after : List ℕ) (n : ℕ) (r : Reading) → length text ≤ longest → length text ≤ length before → reading text ≡ r → r .words ≡ take n after → n ≤ length after → drop n after ≡ drop n before → Outcome text before after (r .answer)
+outcome text before after n r fits h e words short rest =
+    let small : ltb longest (length text) ≡ false = le-ltb _ _ fits in
     let room : ltb (length before) (length text) ≡ false = le-ltb _ _ h in
     let count : length (take n after) ≡ n = length-take-le n after short in
     record {
-      answer = rw (room, e);
-      buffer = rw (room, e, words, count, ← rest) (sym (take-append-drop n after));
+      answer = rw (small, room, e);
+      buffer = rw (small, room, e, words, count, ← rest) (sym (take-append-drop n after));
     }
 
 module _ {text before : List ℕ} {i : ℕ} {buffer : List ℕ} {count : ℕ} {w : Word} {p : Passed} (s : Standing text before i buffer count w p) where
@@ -113,19 +114,19 @@ module _ {text before : List ℕ} {i : ℕ} {buffer : List ℕ} {count : ℕ} {w
       }
 
   -- Any other byte stops the reading.
-  pub stray-here : length text ≤ length before → length buffer ≡ length before → i < length text → white (getD text i 0) ≡ false → lengthened w (getD text i 0) ≡ None → Outcome text before buffer (Err (stray-at p))
-  stray-here long same h e l =
+  pub stray-here : length text ≤ longest → length text ≤ length before → length buffer ≡ length before → i < length text → white (getD text i 0) ≡ false → lengthened w (getD text i 0) ≡ None → Outcome text before buffer (Err (stray-at p))
+  stray-here fits long same h e l =
       let here : read-on (take count buffer) w p (drop i text) ≡ stopped (take count buffer) p = at-drop-more (read-on (take count buffer) w p) text i 0 h ∙ rw (e, l) in
-      outcome text before buffer count (stopped (take count buffer) p) long (sym (s .reads) ∙ here) refl (omega arith) (s .rest)
+      outcome text before buffer count (stopped (take count buffer) p) fits long (sym (s .reads) ∙ here) refl (omega arith) (s .rest)
 
   -- The end of the text ends the word.
-  pub all-read : {after : List ℕ} {n : ℕ} → length text ≤ length before → length after ≡ length before → i ≤ length text → length text ≤ i → Ends w buffer count after n → Outcome text before after (Ok n)
-  all-read {after} {n} long same within done d =
+  pub all-read : {after : List ℕ} {n : ℕ} → length text ≤ longest → length text ≤ length before → length after ≡ length before → i ≤ length text → length text ≤ i → Ends w buffer count after n → Outcome text before after (Ok n)
+  all-read {after} {n} fits long same within done d =
       let words = d .words in
       let later : count ≤ n = grind (arith, tells, d .counted) in
       let few : n ≤ count + w .digits = grind (arith, tells, d .counted) in
       let short : n ≤ length after = omega arith in
       let here : read-on (take count buffer) w p (drop i text) ≡ complete (take n after) = at-drop-all (read-on (take count buffer) w p) text i done ∙ rw words in
-      let o = outcome text before after n (complete (take n after)) long (sym (s .reads) ∙ here) refl short (d .rest ∙ drop-further buffer before count n later (s .rest)) in
+      let o = outcome text before after n (complete (take n after)) fits long (sym (s .reads) ∙ here) refl short (d .rest ∙ drop-further buffer before count n later (s .rest)) in
       let counted : length (take n after) ≡ n = length-take-le n after short in
       rw counted at o

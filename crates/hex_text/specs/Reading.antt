@@ -11,7 +11,7 @@ use Rattle.std.specs.declared.option.Option.the-variants.{Some, None}
 use Rattle.std.specs.declared.result.Result.{Result}
 use Rattle.std.specs.declared.result.Result.the-variants.{Ok, Err}
 use Rattle.hex_text.specs.declared.TextFault.{TextFault}
-use Rattle.hex_text.specs.declared.TextFault.the-variants.{Short, Stray}
+use Rattle.hex_text.specs.declared.TextFault.the-variants.{Long, Short, Stray}
 use Rattle.hex_text.specs.declared.Word.{Word}
 use Rattle.hex_text.specs.declared.Passed.{Passed}
 use Rattle.hex_text.specs.Bytes.{white, hex-digit}
@@ -76,10 +76,16 @@ reading text = read-on [] no-word (record { lines = 0; bytes = 0 }) text
 abbrev pub laid : List ℕ → List ℕ → List ℕ
 laid ws buffer = ws ++ drop (length ws) buffer
 
--- The answer for a text and a buffer: a buffer that is shorter than the text is refused.
-abbrev pub answer-to : List ℕ → List ℕ → Result ℕ TextFault
-answer-to text buffer = cond (ltb (length buffer) (length text)) (Err Short) (reading text .answer)
+-- How many bytes a text may have.
+abbrev pub longest : ℕ
+longest = 1048576
 
--- The buffer afterwards: a buffer that is shorter than the text is left alone.
+-- The answer for a text and a buffer: a text that is too long is refused, and then a buffer that is shorter than the text.
+abbrev pub answer-to : List ℕ → List ℕ → Result ℕ TextFault
+answer-to text buffer =
+    cond (ltb longest (length text)) (Err Long) (cond (ltb (length buffer) (length text)) (Err Short) (reading text .answer))
+
+-- The buffer afterwards: where the text or the buffer is refused, it is left alone.
 abbrev pub buffer-after : List ℕ → List ℕ → List ℕ
-buffer-after text buffer = cond (ltb (length buffer) (length text)) buffer (laid (reading text .words) buffer)
+buffer-after text buffer =
+    cond (ltb longest (length text)) buffer (cond (ltb (length buffer) (length text)) buffer (laid (reading text .words) buffer))

@@ -3,18 +3,41 @@ ghost use mathlib.Core.Path.{_≡_};
 ghost use Prim.Native.Nat.{_+_, _^_, _<_};
 ghost use lib.ListN.{length};
 ghost use Rattle.std.specs.Slices.{found};
+ghost use Rattle.std.specs.declared.option.Option.the-variants.{Some};
 ghost use Rattle.hex_text.specs.Bytes.{white, hex-digit};
 ghost use Rattle.hex_text.specs.Reading.{no-word, lengthened, past, stray-at, answer-to, buffer-after};
+ghost use Rattle.hex_text.specs.Faults.{fault-text};
 ghost use Rattle.hex_text.specs.Inner.{In-range, Ends};
 ghost use Rattle.hex_text.specs.Writing.{Text-reads-back};
+use std::fmt;
+
+/// How many bytes a text may have.
+pub const LONGEST: usize = 1_048_576;
 
 /// Why a text is refused.
 #[derive(Clone, Copy, PartialEq, Eq, Debug)]
 pub enum TextFault {
+    /// The text has more than 1,048,576 bytes.
+    Long,
     /// The buffer for the words is shorter than the text.
     Short,
     /// A byte that no word can take, at a line and a column, both from 1.
     Stray { line: usize, column: usize },
+}
+
+pub impl fmt::Display for TextFault as TextFaultDisplay {
+    ghost shown = { λ fault. Some (fault-text fault) };
+
+    fn fmt<W: fmt::Write>(&self, f: &mut fmt::Formatter<W>) -> fmt::Result {
+        match *self {
+            TextFault::Long => f.write_str("the text is longer than 1048576 bytes"),
+            TextFault::Short => f.write_str("the buffer for the words is shorter than the text"),
+            TextFault::Stray { line, column } => write!(
+                f,
+                "line {line}, column {column}: no part of a hexadecimal word"
+            ),
+        }
+    }
 }
 
 // The word that is being read: how many digits it has so far, and the number that they write.
@@ -126,13 +149,16 @@ impl Passed {
 ///
 /// A word is one to eight hexadecimal digits, in either case. Spaces, tabs, line feeds and carriage returns stand
 /// between words, and anywhere else. At a byte that no word can take, the buffer holds the words that ended before it.
-/// A buffer that is shorter than the text is refused. What of the buffer lies after the words is never changed.
+/// A text of more than 1,048,576 bytes is refused, and so is a buffer that is shorter than the text. What of the buffer lies after the words is never changed.
 /// The text that writes each of any words as eight lower-case digits and a line feed is read as exactly these words.
 pub fn read_words(text: &[u8], out: &mut [u32]) -> Result<usize, TextFault>
     ensures answer { λ r. ⌜ r ≡ answer-to (now (text .entry)) (now (out .entry)) ⌝ }
     ensures buffer { λ _. ⌜ now (out .exit) ≡ buffer-after (now (text .entry)) (now (out .entry)) ⌝ }
     ensures law { λ _. ⌜ Text-reads-back ⌝ }
 {
+    if text.len() > LONGEST {
+        return Err(TextFault::Long);
+    }
     if out.len() < text.len() {
         return Err(TextFault::Short);
     }

@@ -8,9 +8,13 @@ use packet::FaultDebug;
 use packet::FaultEq;
 use packet::FaultPartialEq;
 
+mod rewriting;
 mod shown;
 mod walking;
 
+pub use rewriting::Rewritten;
+pub use rewriting::RewrittenDisplay;
+pub use rewriting::compare_rewritten;
 pub use shown::LineDisplay;
 pub use walking::Listing;
 

@@ -1,11 +1,12 @@
 -- Packets that are written one after another.
-use mathlib.Core.Bool.{Bool, true, false, cond}
+use mathlib.Core.Bool.{true, false, cond}
 use mathlib.Core.List.{List, [], _∷_, _++_}
 use mathlib.Core.Path.{_≡_, _∙_, ap, refl, subst, sym}
 use Prim.Native.Nat.{ℕ, _+_, _-_, _≤_, _<_}
 use lib.ListN.{length, take, drop, getD, length-drop}
 use native.Mathlib.Omega.{arith}
 use Rattle.std.proofs.shelf.Lists.{append-assoc, append-nil, drop-all, drop-more, take-append-drop}
+use Rattle.std.proofs.shelf.Tests.{both-ways}
 use Rattle.message.proofs.Accepts.{accepted-only}
 use Rattle.message.specs.declared.codes.Code.{Code}
 use Rattle.message.specs.declared.codes.Code.the-variants.{Accepted}
@@ -41,9 +42,6 @@ sending ps old =
     let all : length old - 0 ≡ length old = omega arith in
     record { filled = unfilled old; words = ap (λ (room : ℕ). stream (taken ps room)) all; code = ap (stream-code ps) all }
 
-contrary : {b : Bool} → b ≡ false → b ≡ true → ⊥
-contrary no-it it = let z : _≡_ {A = ℕ} 0 1 = cc in omega arith
-
 -- What is taken can be sent.
 taken-sendable : (ps : List Packet) (room : ℕ) → all-sendable (taken ps room) ≡ true
 taken-sendable [] room = refl
@@ -59,7 +57,7 @@ all-taken [] room whole = refl
 all-taken (p ∷ ps) room whole =
     elim (accepted (write-code p room)) as (λ b. accepted (write-code p room) ≡ b → taken (p ∷ ps) room ≡ p ∷ ps) [
       | true ↦ λ took. rw took (ap (λ (qs : List Packet). p ∷ qs) (all-taken ps (room - length (packet-words p)) (rw took at whole)))
-      | false ↦ λ refused. absurd (contrary refused (ap accepted (rw refused at whole)))
+      | false ↦ λ refused. absurd (both-ways (accepted (write-code p room)) refused (ap accepted (rw refused at whole)))
     ] refl
 
 -- A buffer whose written front is the whole stream.
