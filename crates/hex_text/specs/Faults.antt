@@ -10,4 +10,4 @@ abbrev pub fault-text : TextFault → List ℕ
 fault-text Long = codes "the text is longer than 1048576 bytes"
 fault-text Short = codes "the buffer for the words is shorter than the text"
 fault-text (Stray line column) =
-    codes "line " ++ (decimal line ++ (codes ", column " ++ (decimal column ++ codes ": no part of a hexadecimal word")))
+    codes "line " ++ (decimal line ++ (codes ", column " ++ (decimal column ++ codes ": not a hexadecimal word")))

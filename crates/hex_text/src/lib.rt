@@ -34,7 +34,7 @@ pub impl fmt::Display for TextFault as TextFaultDisplay {
             TextFault::Short => f.write_str("the buffer for the words is shorter than the text"),
             TextFault::Stray { line, column } => write!(
                 f,
-                "line {line}, column {column}: no part of a hexadecimal word"
+                "line {line}, column {column}: not a hexadecimal word"
             ),
         }
     }

@@ -11,5 +11,5 @@ returns-else-eq c =
     let words = c .args .words .now in
     let back = drop (length words) (c .args .again .now) in
     let same : c .split-at .result .0 .now ≡ words =
-        c .split-at .ensures .front ∙ ap (take (length words)) (c .in-Continue-rewrite .ensures tt .same) ∙ take-at words back (length words) refl in
+    c .split-at .ensures .front ∙ ap (take (length words)) (c .in-Continue-rewrite .ensures tt .same) ∙ take-at words back (length words) refl in
     absurd (not-from-decides (c .eq .result) (matches-decides _ _ _ (c .eq .ensures)) (c .if-eq .left) same)
