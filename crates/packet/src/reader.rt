@@ -105,7 +105,8 @@ impl<'a> Reader<'a> {
     pub fn place(&self) -> usize
         ensures { λ at. ⌜ at ≡ now (self .entry) .at ⌝ }
     {
-        self.at
+        let Reader { at, .. } = *self;
+        at
     }
 
     /// Whether it has come to the end of the words.
