@@ -12,10 +12,10 @@ use packet::PacketDebug;
 use packet::PacketPartialEq;
 use packet::Reader;
 use packet::read;
-use packet::rewrite;
 use packet::worked_examples;
-use packet::write_all;
 use std::test::*;
+use stream::rewrite;
+use stream::write_all;
 
 // What the reader says of words: the packet, or the fault.
 fn said(words: &[u32]) -> Result<Packet, Fault> {

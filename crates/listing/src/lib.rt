@@ -13,7 +13,10 @@ mod shown;
 mod walking;
 
 pub use rewriting::Rewritten;
+pub use rewriting::RewrittenDebug;
 pub use rewriting::RewrittenDisplay;
+pub use rewriting::RewrittenEq;
+pub use rewriting::RewrittenPartialEq;
 pub use rewriting::compare_rewritten;
 pub use shown::LineDisplay;
 pub use walking::Listing;

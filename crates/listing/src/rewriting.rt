@@ -2,7 +2,7 @@
 ghost use mathlib.Core.Path.{_≡_};
 ghost use lib.ListN.{length};
 ghost use Rattle.std.specs.declared.option.Option.the-variants.{Some};
-ghost use Rattle.packet.specs.Streams.{rewrite-answer, rewritten};
+ghost use Rattle.stream.specs.Rewriting.{rewrite-answer, rewritten};
 ghost use Rattle.listing.specs.Rewriting.{compared, rewriting-text};
 use packet::Fault;
 use std::fmt;
@@ -31,7 +31,7 @@ pub fn compare_rewritten(words: &[u32], again: &mut [u32]) -> Result<Rewritten, 
     ensures answer { λ r. ⌜ r ≡ compared (rewrite-answer (now (words .entry)) (length (now (again .entry)))) ⌝ }
     ensures buffer { λ _. ⌜ now (again .exit) ≡ rewritten (now (words .entry)) (now (again .entry)) ⌝ }
 {
-    packet::rewrite(words, again)?;
+    stream::rewrite(words, again)?;
     let (front, _) = again.split_at(words.len());
     if front == words {
         Ok(Rewritten::Same)

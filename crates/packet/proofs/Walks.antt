@@ -16,7 +16,7 @@ use Rattle.packet.specs.declared.Fault.{Fault}
 use Rattle.packet.specs.declared.Packet.{Packet}
 use Rattle.packet.specs.Layout.{packet-words}
 use Rattle.packet.specs.Reading.{packet-at, front-packet, Stands}
-use Rattle.packet.specs.Streams.{Walk, ended, onward, led-by, walk-from, walk, stream, all-sendable, Streams-read-back}
+use Rattle.packet.specs.Streams.{Walk, ended, onward, led-by, walk-from, walk, stream, all-sendable}
 use Rattle.packet.specs.Writing.{sendable}
 use Rattle.packet.proofs.Accepts.{sendable-some}
 use Rattle.packet.proofs.ReadBack.{written-read}
@@ -57,7 +57,7 @@ walked (p ∷ ps) before (suc more) can room =
     ∙ ap (onward p) (rw (append-assoc, length-append) at rest)
 
 -- Streams of packets that can be sent are read back.
-pub streams-read-back : Streams-read-back
+pub streams-read-back : (ps : List Packet) → all-sendable ps ≡ true → walk (stream ps) ≡ ended ps
 streams-read-back ps can = walked ps [] (length (stream ps)) can (omega arith)
 
 fits-on : (words : List ℕ) (at : ℕ) → Words words → Words (drop at words)

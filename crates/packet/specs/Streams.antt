@@ -1,23 +1,18 @@
 -- Packets one after another: what a walk over words finds, and the words of a list of packets.
 use mathlib.Core.Bool.{Bool, true, cond, _&&_}
 use mathlib.Core.List.{List, [], _∷_, _++_}
-use mathlib.Core.Path.{_≡_}
-use Prim.Native.Nat.{ℕ, zero, suc, _+_, _-_}
+use Prim.Native.Nat.{ℕ, zero, suc, _+_}
 use lib.Dec.{leb}
 use lib.ListN.{length}
 use Rattle.std.specs.declared.option.Option.{Option}
 use Rattle.std.specs.declared.option.Option.the-variants.{Some, None}
 use Rattle.std.specs.declared.result.Result.{Result}
 use Rattle.std.specs.declared.result.Result.the-variants.{Ok, Err}
-use Rattle.message.specs.declared.codes.Code.{Code}
-use Rattle.message.specs.declared.codes.Code.the-variants.{Accepted, Full}
-use Rattle.message.specs.Checks.{given}
-use Rattle.message.specs.Codes.{accepted}
 use Rattle.packet.specs.declared.Fault.{Fault}
 use Rattle.packet.specs.declared.Packet.{Packet}
 use Rattle.packet.specs.Layout.{packet-words}
 use Rattle.packet.specs.Reading.{packet-at}
-use Rattle.packet.specs.Writing.{laid-over, sendable, write-code}
+use Rattle.packet.specs.Writing.{sendable}
 
 -- What a walk over words finds: packets, and then the end of the words or a fault.
 pub record Walk : Type 0 where
@@ -57,32 +52,3 @@ stream (p ∷ ps) = packet-words p ++ stream ps
 abbrev pub all-sendable : List Packet → Bool
 all-sendable [] = true
 all-sendable (p ∷ ps) = sendable p && all-sendable ps
-
--- Packets that can be sent, written one after another, are walked as exactly these packets.
-abbrev pub Streams-read-back : Type 0
-Streams-read-back = (ps : List Packet) → all-sendable ps ≡ true → walk (stream ps) ≡ ended ps
-
--- The packets that the writer takes one after another, given the room, up to the first that it refuses.
-abbrev pub taken : List Packet → ℕ → List Packet
-taken [] room = []
-taken (p ∷ ps) room = cond (accepted (write-code p room)) (p ∷ taken ps (room - length (packet-words p))) []
-
--- The buffer then: it begins with the words of these packets, and the rest is as it was.
-abbrev pub written-all : List Packet → List ℕ → List ℕ
-written-all ps buffer = laid-over (stream (taken ps (length buffer))) buffer
-
--- The answer to the first packet that it refuses, if there is one.
-abbrev pub stream-code : List Packet → ℕ → Code
-stream-code [] room = Accepted
-stream-code (p ∷ ps) room =
-    cond (accepted (write-code p room)) (stream-code ps (room - length (packet-words p))) (write-code p room)
-
--- The answer of writing words again: the buffer is at least as long, the walk comes to the end, and this many packets were found.
-abbrev pub rewrite-answer : List ℕ → ℕ → Result ℕ Fault
-rewrite-answer words room =
-    given (leb (length words) room) (Err (record { code = Full; place = room }))
-    (elim (walk words .fault) [ None ↦ Ok (length (walk words .packets)) | Some f ↦ Err f ])
-
--- The buffer then: it begins with the packets that the walk found, unless it was too short.
-abbrev pub rewritten : List ℕ → List ℕ → List ℕ
-rewritten words buffer = cond (leb (length words) (length buffer)) (laid-over (stream (walk words .packets)) buffer) buffer

@@ -1,4 +1,4 @@
-// Messages as packets of 32-bit words: the writer, the reader, and streams of packets.
+// Messages as packets of 32-bit words: the writer and the reader.
 use message::Code;
 use message::CodeDebug;
 use message::CodeEq;
@@ -12,14 +12,11 @@ use message::MessagePartialEq;
 mod examples;
 mod fields;
 mod reader;
-mod streams;
 mod writer;
 
 pub use examples::worked_examples;
 pub use reader::Reader;
 pub use reader::read;
-pub use streams::rewrite;
-pub use streams::write_all;
 
 /// A message and the source that its packet names: the terminal for what goes to the home, 64 for what comes from it.
 #[derive(Clone, Copy, PartialEq, Eq, Debug)]

@@ -11,13 +11,14 @@ use Rattle.message.proofs.Accepts.{accepted-only}
 use Rattle.message.specs.declared.codes.Code.{Code}
 use Rattle.message.specs.declared.codes.Code.the-variants.{Accepted}
 use Rattle.message.specs.Codes.{accepted}
 use Rattle.packet.specs.declared.Packet.{Packet}
 use Rattle.packet.specs.Layout.{packet-words}
-use Rattle.packet.specs.Streams.{all-sendable, ended, stream, stream-code, taken, walk, written-all}
+use Rattle.packet.specs.Streams.{all-sendable, ended, stream, walk}
+use Rattle.stream.specs.Sending.{stream-code, taken, written-all}
 use Rattle.packet.specs.Writing.{laid-over, sendable, write-code, written}
 use Rattle.packet.proofs.Accepts.{accepted-room, accepted-sendable}
-use Rattle.packet.proofs.Overlays.{Filled, filled-is, filled-on, unfilled}
+use Rattle.stream.proofs.Overlays.{Filled, filled-is, filled-on, unfilled}
 use Rattle.packet.proofs.Walks.{streams-read-back}
 
 -- The packet that the checker reads past the end of a list.
 abbrev zeros : Packet

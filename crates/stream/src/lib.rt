@@ -1,16 +1,18 @@
-// Streams: packets one after another.
+// Streams of packets: lists of packets written, and words read and written again.
 ghost use mathlib.Core.List.{_++_};
 ghost use mathlib.Core.Path.{_≡_};
 ghost use Prim.Native.Nat.{_-_, _≤_};
 ghost use lib.ListN.{drop, length, take};
 ghost use Rattle.std.specs.Vec.{made};
 ghost use Rattle.message.specs.declared.codes.Code.the-variants.{Accepted};
-ghost use Rattle.packet.specs.Streams.{ended, rewrite-answer, rewritten, stream, stream-code, taken, walk, written-all};
+ghost use Rattle.packet.specs.Streams.{ended, stream, walk};
+ghost use Rattle.stream.specs.Rewriting.{rewrite-answer, rewritten};
+ghost use Rattle.stream.specs.Sending.{stream-code, taken, written-all};
 ghost use Rattle.packet.specs.Writing.{laid-over, write-code, written};
-use crate::Fault;
-use crate::Packet;
-use crate::Reader;
 use message::Code;
+use packet::Fault;
+use packet::Packet;
+use packet::Reader;
 
 /// Writes a packet at a place of a buffer.
 fn write_at(packet: Packet, out: &mut [u32], at: usize) -> Code

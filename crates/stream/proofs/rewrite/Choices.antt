@@ -2,8 +2,8 @@ use mathlib.Core.Path.{_≡_}
 use Prim.Native.Nat.{_-_}
 use lib.ListN.{length}
 use denote.Ref.{now}
-use Rattle.packet.proofs.Rewrites.{Rewriting}
-use Rattle.packet.proofs.streams.rewrite.Given as given
+use Rattle.stream.proofs.Rewrites.{Rewriting}
+use Rattle.stream.proofs.rewrite.Given as given
 
 abbrev pub Inv-loop-reader : given.InvT-loop-reader
 Inv-loop-reader l = (now (l .reader .words) ≡ l .words) × Rewriting (l .words) (l .entry .out) (l .out) (l .reader .at) (l .count)

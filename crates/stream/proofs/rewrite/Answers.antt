@@ -5,11 +5,11 @@ use lib.ListN.{take, drop}
 use native.Mathlib.Omega.{arith}
 use Rattle.std.proofs.shelf.Results.{err-from-errBy, made-from-err}
 use Rattle.std.specs.declared.result.Result.the-variants.{Ok, Err}
 use Rattle.packet.specs.declared.Fault.{Fault}
 use Rattle.packet.specs.Writing.{laid-over, written}
-use Rattle.packet.proofs.Rewrites.{at-end, handed-at, not-at-end, read-at, rewriting-done, rewriting-on, rewriting-stopped}
+use Rattle.stream.proofs.Rewrites.{at-end, handed-at, not-at-end, read-at, rewriting-done, rewriting-on, rewriting-stopped}
 use Rattle.packet.proofs.Walks.{streams-written-back}
-use Rattle.packet.proofs.streams.rewrite.Needs as need
+use Rattle.stream.proofs.rewrite.Needs as need
 
 pub returns-in-Break-found : need.returns-in-Break-found
 returns-in-Break-found c =

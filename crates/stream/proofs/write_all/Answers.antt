@@ -1,5 +1,5 @@
-use Rattle.packet.proofs.Sends.{sending-done, sending-on, sending-stopped}
-use Rattle.packet.proofs.streams.write_all.Needs as need
+use Rattle.stream.proofs.Sends.{sending-done, sending-on, sending-stopped}
+use Rattle.stream.proofs.write_all.Needs as need
 
 pub returns-then-not-is-accepted : need.returns-then-not-is-accepted
 returns-then-not-is-accepted c =

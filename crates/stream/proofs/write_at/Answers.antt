@@ -3,9 +3,9 @@ use mathlib.Core.Path.{_∙_, ap}
 use Prim.Native.Nat.{ℕ}
 use lib.ListN.{length, take, length-drop}
 use Rattle.std.proofs.shelf.Lists.{take-rest}
 use Rattle.packet.specs.Writing.{write-code, written}
-use Rattle.packet.proofs.Overlays.{put-rest}
-use Rattle.packet.proofs.streams.write_at.Needs as need
+use Rattle.stream.proofs.Overlays.{put-rest}
+use Rattle.stream.proofs.write_at.Needs as need
 
 pub returns : need.returns
 returns c =

@@ -12,15 +12,16 @@ use Rattle.std.proofs.shelf.Tests.{le-leb, leb-false, leb-true}
 use Rattle.std.specs.declared.option.Option.the-variants.{None}
 use Rattle.std.specs.declared.result.Result.{Result}
 use Rattle.std.specs.declared.result.Result.the-variants.{Ok, Err}
 use Rattle.packet.specs.declared.Fault.{Fault}
 use Rattle.packet.specs.declared.Packet.{Packet}
 use Rattle.packet.specs.Layout.{packet-words}
 use Rattle.packet.specs.Reading.{Stands, packet-at}
-use Rattle.packet.specs.Streams.{Walk, rewrite-answer, rewritten, stream, walk, walk-from}
+use Rattle.packet.specs.Streams.{Walk, stream, walk, walk-from}
+use Rattle.stream.specs.Rewriting.{rewrite-answer, rewritten}
 use Rattle.packet.specs.Writing.{laid-over, written}
 use Rattle.packet.proofs.Accepts.{sendable-accepted}
-use Rattle.packet.proofs.Overlays.{Filled, filled-is, filled-on, unfilled}
+use Rattle.stream.proofs.Overlays.{Filled, filled-is, filled-on, unfilled}
 use Rattle.packet.proofs.Walks.{walk-end, walk-on, walk-stop}
 
 -- With a place reached and so many packets found: what was written is what was read, and the rest of the walk makes it whole.
 pub record Rewriting (words old out : List ℕ) (at count : ℕ) : Type 0 where
