@@ -1,3 +1,4 @@
+use native.Mathlib.Omega.{arith}
 use mathlib.Core.Path.{sym, ap, _∙_}
 use borrow.Author.Needs.{needs}
 use Rattle.std.specs.declared.result.Result.the-variants.{Err}
@@ -11,7 +12,7 @@ loop-byte-holds c = at-start _ _ _ (c .none-word .ensures)
 
 pub returns-in-rest : need.returns-in-rest
 returns-in-rest c =
-    let o = stray-here (c .loop-byte .inv) (c .if-text-gt-LONGEST .left) (c .if-out-text .left) (c .loop-byte .kept .out) (c .loop-byte-test .taken) (search needs) (sym (c .lengthen .ensures .value) ∙ c .in-rest .is) in
+    let o = stray-here (c .loop-byte .inv) (omega arith) (c .if-out-text .left) (c .loop-byte .kept .out) (c .loop-byte-test .taken) (search needs) (sym (c .lengthen .ensures .value) ∙ c .in-rest .is) in
     record { answer = ap Err (c .stray .ensures) ∙ o .answer; buffer = o .buffer; law = text-back }
 
 pub loop-byte-again : need.loop-byte-again
@@ -27,7 +28,7 @@ loop-byte-again c =
 
 pub returns : need.returns
 returns c =
-    let o = all-read (c .loop-byte .inv) {after = c .end .last .out} {n = c .end .result} (c .if-text-gt-LONGEST .left) (c .if-out-text .left) (c .end .kept .out ∙ c .loop-byte .kept .out) (c .loop-byte .kept .byte-index-end) (c .loop-byte-test .left) (search needs) in
+    let o = all-read (c .loop-byte .inv) {after = c .end .last .out} {n = c .end .result} (omega arith) (c .if-out-text .left) (c .end .kept .out ∙ c .loop-byte .kept .out) (c .loop-byte .kept .byte-index-end) (c .loop-byte-test .left) (search needs) in
     record { answer = o .answer; buffer = o .buffer; law = text-back }
 
 pub returns-then-out-text : need.returns-then-out-text

@@ -10,7 +10,7 @@ use Rattle.packet.proofs.reader.read.Needs as need
 
 pub returns-then-at-end : need.returns-then-at-end
 returns-then-at-end c =
-    record { value = rw (drop-of-length-le (c .args .words .now) {i = c .args .at} (c .if-at-end .taken)); handed = tt }
+    record { value = rw (drop-of-length-le (c .args .words .now) {i = c .args .at} (omega arith)); handed = tt }
 
 pub returns : need.returns
 returns c =
