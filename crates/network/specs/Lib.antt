@@ -1,1 +1,2 @@
 pub mod Traffic
+pub mod Sizes
