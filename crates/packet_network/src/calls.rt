@@ -98,14 +98,14 @@ pub impl Network for PacketNetwork<'_> as PacketNetworkNetwork {
         if lane >= self.lanes() {
             return Code::NoSuchLane;
         }
-        let count = self.counts[lane];
-        if count == 0 {
+        let waiting = self.counts[lane];
+        if waiting == 0 {
             return Code::Empty;
         }
         let size = oldest_size(&self.lanes, lane);
         let PacketNetwork { lanes, .. } = self;
         let _ = lanes.discard_many(lane, size);
-        self.counts[lane] = count - 1;
+        self.counts[lane] = waiting - 1;
         Code::Accepted
     }
 }

@@ -18,8 +18,8 @@ returns-then-lane-lanes c =
     let did = drop-absent t (c .args .lane) past in
     record { code = did .code; after = same-traffic t (after-drop t (c .args .lane)) refl refl (did .waiting) }
 
-pub returns-then-count-eq0 : need.returns-then-count-eq0
-returns-then-count-eq0 c =
+pub returns-then-waiting-eq0 : need.returns-then-waiting-eq0
+returns-then-waiting-eq0 c =
     let net = c .args .self .now in
     let t = traffic-of net in
     let there : c .args .lane < t .lanes = omega (arith, c .lanes .ensures .value) in
