@@ -1,7 +1,7 @@
 -- What a put and a drop mean for one lane: for whoever uses networks.
 use mathlib.Core.Bool.{Bool, true, false, cond}
 use mathlib.Core.List.{List, [], _∷_, _++_}
-use mathlib.Core.Path.{_≡_, _∙_, ap, refl}
+use mathlib.Core.Path.{_≡_, refl}
 use Prim.Native.Nat.{ℕ}
 use Rattle.message.proofs.Lists.{with-other, with-same}
 use Rattle.message.specs.declared.Message.{Message}

@@ -1,12 +1,7 @@
 -- What a drop answers and leaves, case by case: for whoever makes a network.
-use mathlib.Core.Bool.{true, false, cond}
-use mathlib.Core.List.{List, [], _∷_}
-use mathlib.Core.Path.{_≡_, refl}
 use Prim.Native.Nat.{ℕ, _<_, _≤_}
-use lib.Dec.{leb, ltb}
 use lib.ListN.{length}
 use Rattle.std.proofs.shelf.Tests.{le-leb, le-ltb, lt-leb, lt-ltb}
-use Rattle.message.specs.declared.Message.{Message}
 use Rattle.message.specs.declared.codes.Code.the-variants.{Accepted, Empty, NoSuchLane}
 use Rattle.message.specs.Lists.{with-list}
 use Rattle.network.specs.Traffic.{Traffic, drop-code, drop-waiting, later}

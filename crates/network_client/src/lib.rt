@@ -1,6 +1,5 @@
 // Users of networks that know nothing but the trait: what any list of calls does to any network follows from its contracts.
 ghost use mathlib.Core.Path.{_≡_};
-ghost use Rattle.message.specs.declared.codes.Code.the-variants.{Accepted};
 ghost use Rattle.network.specs.Traffic.{after-put, put-code};
 ghost use Rattle.network_client.specs.Runs.{after-call, after-calls, code-of};
 ghost use Rattle.network_client.specs.Pairs.{Apart};
@@ -36,7 +35,7 @@ pub fn put_both<N: Network>(
 }
 
 /// Makes one call.
-pub fn make<N: Network>(net: &mut N, call: Call) -> Code
+pub fn apply<N: Network>(net: &mut N, call: Call) -> Code
     ensures code { λ c. ⌜ c ≡ code-of (traffic (now (net .entry))) call ⌝ }
     ensures after { λ _. ⌜ traffic (now (net .exit)) ≡ after-call (traffic (now (net .entry))) call ⌝ }
 {
@@ -51,6 +50,6 @@ pub fn run<N: Network>(net: &mut N, calls: &[Call])
     ensures after { λ _. ⌜ traffic (now (net .exit)) ≡ after-calls (traffic (now (net .entry))) (now (calls .entry)) ⌝ }
 {
     for call in calls {
-        let _ = make(net, *call);
+        let _ = apply(net, *call);
     }
 }

@@ -13,6 +13,7 @@ mod tests {
     use network::Network;
     use packet_network::PacketNetwork;
     use packet_network::PacketNetworkNetwork;
+    use ring::Ring;
     use slot_network::SlotNetwork;
     use slot_network::SlotNetworkNetwork;
     use std::test::*;
@@ -141,6 +142,16 @@ mod tests {
         let mut net = PacketNetwork::new(&mut words, 2, 2);
         wraps(&mut net)?;
         refuses(&mut net)
+    }
+
+    // A ring of no slots is full and empty at once.
+    #[test]
+    fn no_slots() -> Result<(), Fail> {
+        let mut none: [u32; 0] = [];
+        let mut ring = Ring::new(&mut none);
+        check_eq(ring.put(1), Code::Full)?;
+        check_eq(ring.discard(), Code::Empty)?;
+        check_eq(ring.look(0), None)
     }
 
     // The i-th call of a long run: puts of all kinds, some malformed, and drops, to lanes that are there and one that is not.

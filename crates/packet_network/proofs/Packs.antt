@@ -1,5 +1,5 @@
 -- Messages that are packed into words are what a reader finds there.
-use mathlib.Core.Bool.{Bool, true, false, cond, _&&_}
+use mathlib.Core.Bool.{Bool, true, false, cond}
 use mathlib.Core.List.{List, [], _∷_, _++_}
 use mathlib.Core.Path.{_≡_, _∙_, ap, refl, sym}
 use Prim.Native.Nat.{ℕ, _+_, _*_, _≤_}
@@ -17,7 +17,7 @@ use Rattle.message.specs.Messages.{formed-as, well-formed}
 use Rattle.packet.proofs.Walks.{streams-read-back}
 use Rattle.packet.specs.declared.Packet.{Packet}
 use Rattle.packet.specs.Layout.{header, packet-words, source-fits, value-words, words-as}
-use Rattle.packet.specs.Streams.{Walk, all-sendable, stream, walk}
+use Rattle.packet.specs.Streams.{Walk, all-sendable, stream}
 use Rattle.packet.specs.Writing.{sendable, sendable-as}
 use Rattle.packet_network.specs.Packets.{messages, packet-in, packets-in, said, source-as}
 

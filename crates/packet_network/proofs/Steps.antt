@@ -1,7 +1,7 @@
 -- A put and a drop that are accepted, over the words of the lanes.
 use mathlib.Core.Bool.{true}
 use mathlib.Core.List.{List, [], _∷_, _++_}
-use mathlib.Core.Path.{_≡_, _∙_, ap, refl, subst, sym}
+use mathlib.Core.Path.{_≡_, _∙_, ap, subst, sym}
 use Prim.Native.Nat.{ℕ, _+_, _-_, _*_, _<_, _≤_}
 use lib.Dec.{ltb}
 use lib.ListN.{drop, getD, length, set}
@@ -41,11 +41,6 @@ head-step f counts lanes depth l found holds there is =
     ap message-of is ∙ head-said l (f l) (packs-at f counts lanes depth l holds there)
     ∙ sym (cond-true (ltb l lanes) (nth (said (f l)) 0) None (lt-ltb l lanes there))
 
--- The words of one lane change, and with them its messages and their count.
-turned : (f g : ℕ → List ℕ) (counts : List ℕ) (lanes depth l n : ℕ) (words : List ℕ) → Holds f counts lanes depth → l < length counts
-    → Holds (with-list f l words) (set counts l n) lanes depth → g ≡ with-list f l words → Holds g (set counts l n) lanes depth
-turned f g counts lanes depth l n words holds listed now is = subst (λ (h : ℕ → List ℕ). Holds h (set counts l n) lanes depth) (sym is) now
-
 -- What a put leaves, where g is the words of the lanes then.
 pub record Put (f g : ℕ → List ℕ) (counts : List ℕ) (lanes depth l : ℕ) (m : Message) : Type 0 where
   pub holds : Holds g (set counts l (getD counts l 0 + 1)) lanes depth
@@ -70,7 +65,7 @@ put-step f g counts lanes depth l m words holds few-lanes there listed good room
     let free : length (said old) < depth = omega (arith, holds .counted l there) in
     let meant = put-in (traffic-in f lanes depth) l m there good free in
     record {
-      holds = turned f g counts lanes depth l (getD counts l 0 + 1) (old ++ words) holds listed (kept f counts lanes depth l (old ++ words) (getD counts l 0 + 1) holds listed (now .0) many (omega arith)) joined;
+      holds = subst (λ (h : ℕ → List ℕ). Holds h (set counts l (getD counts l 0 + 1)) lanes depth) (sym joined) (kept f counts lanes depth l (old ++ words) (getD counts l 0 + 1) holds listed (now .0) many (omega arith));
       did = record {
         code = meant .code;
         waiting = ap said-in joined ∙ said-with f l (old ++ words) ∙ ap (with-list (said-in f) l) (now .1) ∙ meant .waiting;
@@ -102,7 +97,7 @@ drop-step f g counts lanes depth l size holds there listed some is left =
     let waits : 1 ≤ length (said old) = omega (arith, holds .counted l there) in
     let meant = drop-oldest (traffic-in f lanes depth) l there waits in
     record {
-      holds = turned f g counts lanes depth l (getD counts l 0 - 1) (drop first old) holds listed (kept f counts lanes depth l (drop first old) (getD counts l 0 - 1) holds listed (now .0) many (omega arith)) gone;
+      holds = subst (λ (h : ℕ → List ℕ). Holds h (set counts l (getD counts l 0 - 1)) lanes depth) (sym gone) (kept f counts lanes depth l (drop first old) (getD counts l 0 - 1) holds listed (now .0) many (omega arith));
       did = record {
         code = meant .code;
         waiting = ap said-in gone ∙ said-with f l (drop first old) ∙ ap (with-list (said-in f) l) (now .1) ∙ meant .waiting;

@@ -1,7 +1,7 @@
 -- The words of a message, as the packet writer makes them, and the words of a lane, as they are looked at.
 use mathlib.Core.Bool.{true}
-use mathlib.Core.List.{List, [], _∷_, _++_}
-use mathlib.Core.Path.{_≡_, _∙_, ap, refl, sym}
+use mathlib.Core.List.{List, [], _∷_}
+use mathlib.Core.Path.{_≡_, _∙_, ap, refl}
 use Prim.Native.Nat.{ℕ, zero, suc, _<_, _≤_}
 use lib.Dec.{ltb}
 use lib.ListN.{drop, getD, length, take}
@@ -13,13 +13,12 @@ use Rattle.std.specs.declared.option.Option.the-variants.{Some, None}
 use Rattle.std.specs.shelf.Maps.{nth}
 use Rattle.lanes.specs.Calls.{looked}
 use Rattle.message.specs.declared.Message.{Message}
-use Rattle.message.specs.Kinds.{kind-of}
 use Rattle.message.specs.Messages.{well-formed}
 use Rattle.packet.proofs.Accepts.{sendable-accepted}
 use Rattle.packet.specs.declared.Packet.{Packet}
 use Rattle.packet.specs.Layout.{packet-words}
-use Rattle.packet.specs.Writing.{laid-over, sendable, written}
-use Rattle.packet_network.specs.Packets.{packet-in, source-as}
+use Rattle.packet.specs.Writing.{sendable, written}
+use Rattle.packet_network.specs.Packets.{packet-in}
 use Rattle.packet_network.proofs.Packs.{few-words, packet-sendable}
 
 -- The writer's buffer of four words begins with the words of a packet that can be sent.

@@ -7,7 +7,7 @@ ghost use Rattle.lanes.specs.Standing.{Standing, held};
 ghost use Rattle.message.specs.Kinds.{kind-of};
 ghost use Rattle.message.specs.Messages.{well-formed};
 ghost use Rattle.packet.specs.Layout.{packet-words};
-ghost use Rattle.packet_network.specs.Packets.{front, packet-in, read-front, size-of, source-as};
+ghost use Rattle.packet_network.specs.Packets.{packet-in, read-front, size-of, source-as};
 use lanes::Lanes;
 use message::Message;
 use packet::Packet;

@@ -3,7 +3,6 @@ use mathlib.Core.List.{List, _++_}
 use mathlib.Core.Path.{_≡_}
 use Prim.Native.Nat.{ℕ, _+_, _<_, _≤_}
 use lib.ListN.{length, drop}
-use native.Mathlib.Omega.{arith}
 use Rattle.std.proofs.shelf.Tests.{le-leb, lt-leb}
 use Rattle.message.specs.declared.codes.Code.{Code}
 use Rattle.message.specs.declared.codes.Code.the-variants.{Accepted, Full, Empty}

@@ -1,7 +1,6 @@
 // Where the elements of a ring lie among its slots.
 ghost use mathlib.Core.Path.{_≡_};
 ghost use Prim.Native.Nat.{_≤_, _<_};
-ghost use lib.ListN.{length};
 ghost use Rattle.std.specs.shelf.Maps.{nth};
 ghost use Rattle.ring.specs.Waiting.{place, waiting};
 ghost use Rattle.ring.specs.Spans.{within};

@@ -4,8 +4,8 @@ use Rattle.network_client.proofs.run.Needs as need
 
 pub loop-call-again : need.loop-call-again
 loop-call-again g c =
-    run-on (g .N·Network .traffic (c .loop-call .net)) (g .N·Network .traffic (c .make .last .net)) _ (c .args .calls .now) (c .loop-call .call-index) _
-    (omega arith) (c .make .ensures .after) (c .loop-call .inv)
+    run-on (g .N·Network .traffic (c .loop-call .net)) (g .N·Network .traffic (c .apply .last .net)) _ (c .args .calls .now) (c .loop-call .call-index) _
+    (omega arith) (c .apply .ensures .after) (c .loop-call .inv)
 
 pub returns : need.returns
 returns g c =

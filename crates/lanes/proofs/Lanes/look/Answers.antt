@@ -1,4 +1,3 @@
-use Prim.Native.Nat.{_+_, _*_, _≤_}
 use lib.ListN.{length}
 use native.Mathlib.Omega.{arith}
 use Rattle.lanes.proofs.Lands.{looked-is}

@@ -1,5 +1,4 @@
 use mathlib.Core.Path.{_∙_, ap, sym}
-use native.Mathlib.Omega.{arith}
 use Rattle.lanes.specs.Standing.{held}
 use Rattle.packet_network.proofs.Writes.{looked-word, word-or}
 use Rattle.packet_network.proofs.words.word_at.Needs as need

@@ -1,5 +1,5 @@
-use mathlib.Core.List.{[], _∷_, _++_}
-use mathlib.Core.Path.{_≡_, _∙_, ap, refl}
+use mathlib.Core.List.{[], _∷_}
+use mathlib.Core.Path.{_∙_, ap, refl}
 use Prim.Native.Nat.{_+_, _≤_, _<_}
 use lib.ListN.{length, length-set, set}
 use native.Mathlib.Omega.{arith}

@@ -1,5 +1,4 @@
 use Rattle.network.proofs.Sizes.{new-traffic}
-use Rattle.slot_network.specs.Means.{traffic-of}
 use Rattle.slot_network.proofs.SlotNetwork.new.Needs as need
 
 pub returns : need.returns

@@ -1,6 +1,5 @@
-use mathlib.Core.Path.{_≡_, _∙_, ap, sym}
+use mathlib.Core.Path.{_∙_, ap, sym}
 use Prim.Native.Nat.{_<_}
-use lib.Dec.{ltb}
 use native.Mathlib.Omega.{arith}
 use Rattle.lanes.specs.Standing.{held}
 use Rattle.packet_network.proofs.Fronts.{message-of}
