@@ -1,2 +1,3 @@
 pub mod Opcodes
 pub mod Accepts
+pub mod Lists

@@ -1,0 +1,4 @@
+pub mod Puts
+pub mod Drops
+pub mod Clients
+pub mod Sizes

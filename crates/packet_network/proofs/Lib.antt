@@ -1,0 +1,6 @@
+pub mod Packs
+pub mod Writes
+pub mod Fronts
+pub mod Holds
+pub mod Steps
+pub mod Nets

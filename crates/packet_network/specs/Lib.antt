@@ -1,0 +1,3 @@
+pub mod Packets
+pub mod Holds
+pub mod Means

@@ -1,0 +1,4 @@
+pub mod Waiting
+pub mod Spans
+pub mod Calls
+pub mod Rings
