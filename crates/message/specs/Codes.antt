@@ -3,11 +3,14 @@ use mathlib.Core.Bool.{Bool}
 use Prim.Native.Nat.{ℕ}
 use lib.Dec.{eqb}
 use Rattle.message.specs.declared.codes.Code.{Code}
-use Rattle.message.specs.declared.codes.Code.the-variants.{Accepted, Full, Malformed, MissingWords, UnknownOpcode, WrongLength, WrongSource, UnknownRecord}
+use Rattle.message.specs.declared.codes.Code.the-variants.{Accepted, Full, Empty, NoSuchLane, Unfit, Malformed, MissingWords, UnknownOpcode, WrongLength, WrongSource, UnknownRecord}
 
 abbrev pub number : Code → ℕ
 number Accepted = 0
 number Full = 3
+number Empty = 4
+number NoSuchLane = 7
+number Unfit = 9
 number Malformed = 10
 number MissingWords = 12
 number UnknownOpcode = 13

@@ -9,6 +9,12 @@ pub enum Code {
     Accepted,
     /// A lane or a buffer is full.
     Full,
+    /// A lane is empty.
+    Empty,
+    /// There is no such terminal or lane.
+    NoSuchLane,
+    /// Sizes or parts do not fit.
+    Unfit,
     /// The message is malformed.
     Malformed,
     /// Words of a packet are missing.
@@ -38,6 +44,9 @@ impl Code {
         match self {
             Code::Accepted => 0,
             Code::Full => 3,
+            Code::Empty => 4,
+            Code::NoSuchLane => 7,
+            Code::Unfit => 9,
             Code::Malformed => 10,
             Code::MissingWords => 12,
             Code::UnknownOpcode => 13,
