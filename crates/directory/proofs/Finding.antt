@@ -8,17 +8,13 @@ use lib.Dec.{eqb, ltb}
 use Rattle.std.specs.declared.option.Option.{Option}
 use Rattle.std.specs.declared.option.Option.the-variants.{Some, None}
 use Rattle.std.proofs.shelf.Tests.{cases-eq, cases-lt, cond-true, cond-false, or-right, or-left, or-from, ne-eqb, eq-eqb, lt-ltb, le-ltb}
-use Rattle.directory.specs.Sets.{least}
+use Rattle.directory.specs.Sets.{least, lesser}
 
--- the lesser of a number, if there is one, and u
-abbrev pub lesser : Option ℕ → ℕ → Option ℕ
-lesser None u = Some u
-lesser (Some v) u = cond (ltb u v) (Some u) (Some v)
-
-pub least-none : (p : ℕ → Bool) (t n : ℕ) → ((u : ℕ) → t ≤ u → p u ≡ false) → least p t n ≡ None
+pub least-none : (p : ℕ → Bool) (t n : ℕ) → ((u : ℕ) → t ≤ u → u < t + n → p u ≡ false) → least p t n ≡ None
 unfolding least
 least-none p t zero h = refl
-least-none p t (suc n) h = cond-false (p t) (Some t) (least p (t + 1) n) (h t (omega arith)) ∙ least-none p (t + 1) n (λ u l. h u (omega arith))
+least-none p t (suc n) h =
+    cond-false (p t) (Some t) (least p (t + 1) n) (h t (omega arith) (omega arith)) ∙ least-none p (t + 1) n (λ u l m. h u (omega arith) (omega arith))
 
 pub least-some : (p : ℕ → Bool) (t n u : ℕ) → t ≤ u → u < t + n → p u ≡ true → ((v : ℕ) → t ≤ v → v < u → p v ≡ false) → least p t n ≡ Some u
 unfolding least

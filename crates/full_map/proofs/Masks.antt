@@ -24,7 +24,7 @@ mask-bit w t u h l k =
 
 pub next-none : (w t : ℕ) → t < 64 → w < 18446744073709551616 → bitAnd w (mask t) ≡ 0 → least (bit w) t 64 ≡ None
 next-none w t h l e =
-    least-none (bit w) t 64 (λ u k. sym (mask-bit w t u h l k) ∙ ap (λ (x : ℕ). bit x u) e ∙ bit-none u)
+    least-none (bit w) t 64 (λ u k _. sym (mask-bit w t u h l k) ∙ ap (λ (x : ℕ). bit x u) e ∙ bit-none u)
 
 pub next-some : (w t : ℕ) → t < 64 → w < 18446744073709551616 → (bitAnd w (mask t) ≡ 0 → ⊥)
     → least (bit w) t 64 ≡ Some (trailingZeros 64 (bitAnd w (mask t)))

@@ -9,12 +9,12 @@ use Rattle.full_map.proofs.calls.FullMapDirectory.next.Needs as need
 pub returns-then-r-self : need.returns-then-r-self
 returns-then-r-self c =
     let m = c .args .self .now in
-    record { answer = sym (least-none _ (c .args .t) 64 (λ u _. unserved-record (m .words) (m .records) (c .args .r) u (m .unused) (omega arith))) }
+    record { answer = sym (least-none _ (c .args .t) 64 (λ u _ _. unserved-record (m .words) (m .records) (c .args .r) u (m .unused) (omega arith))) }
 
 pub returns-then-t-self : need.returns-then-t-self
 returns-then-t-self c =
     let m = c .args .self .now in
-    record { answer = sym (least-none _ (c .args .t) 64 (λ u h. unserved-terminal (m .words) (m .terminals) (c .args .r) u (m .narrow) (omega arith))) }
+    record { answer = sym (least-none _ (c .args .t) 64 (λ u h _. unserved-terminal (m .words) (m .terminals) (c .args .r) u (m .narrow) (omega arith))) }
 
 pub returns-then-from-t-eq0 : need.returns-then-from-t-eq0
 returns-then-from-t-eq0 c =
