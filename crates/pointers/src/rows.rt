@@ -20,14 +20,14 @@ pub struct Placed {
 
 impl Row {
     /// A row with all places free.
-    pub fn free() -> Row
+    pub(crate) fn free() -> Row
         ensures value { λ w. ⌜ w ≡ free-row ⌝ }
     {
         Row { numbers: [64; 4] }
     }
 
     /// Whether a number stands in a place.
-    pub fn has(self, t: usize) -> bool
+    pub(crate) fn has(self, t: usize) -> bool
         ensures answer { λ b. ⌜ b ≡ has (self .numbers) t ⌝ }
     {
         for i in 0..4 {
@@ -39,7 +39,7 @@ impl Row {
     }
 
     /// The first free place, or none.
-    pub fn free_place(self) -> Option<usize>
+    pub(crate) fn free_place(self) -> Option<usize>
         ensures answer { λ o. ⌜ o ≡ free-place self ⌝ }
         ensures within { λ o. ⌜ found o (λ i. i < 4) ⌝ }
     {
