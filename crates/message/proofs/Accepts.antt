@@ -4,7 +4,7 @@ use mathlib.Core.Path.{_≡_, refl}
 use Prim.Native.Nat.{ℕ}
 use native.Mathlib.Omega.{arith}
 use Rattle.message.specs.declared.codes.Code.{Code}
-use Rattle.message.specs.declared.codes.Code.the-variants.{Accepted, Full, Empty, NoSuchLane, Unfit, Malformed, MissingWords, UnknownOpcode, WrongLength, WrongSource, UnknownRecord}
+use Rattle.message.specs.declared.codes.Code.the-variants.{Accepted, Full, Empty, NoSuchLane, NoSuchRecord, Unfit, Malformed, AtLimit, MissingWords, UnknownOpcode, WrongLength, WrongSource, UnknownRecord}
 use Rattle.message.specs.Codes.{accepted}
 
 pub accepted-only : (c : Code) → accepted c ≡ true → c ≡ Accepted
@@ -12,8 +12,10 @@ accepted-only Accepted is = refl
 accepted-only Full is = absurd (let z : _≡_ {A = ℕ} 0 1 = cc in omega arith)
 accepted-only Empty is = absurd (let z : _≡_ {A = ℕ} 0 1 = cc in omega arith)
 accepted-only NoSuchLane is = absurd (let z : _≡_ {A = ℕ} 0 1 = cc in omega arith)
+accepted-only NoSuchRecord is = absurd (let z : _≡_ {A = ℕ} 0 1 = cc in omega arith)
 accepted-only Unfit is = absurd (let z : _≡_ {A = ℕ} 0 1 = cc in omega arith)
 accepted-only Malformed is = absurd (let z : _≡_ {A = ℕ} 0 1 = cc in omega arith)
+accepted-only AtLimit is = absurd (let z : _≡_ {A = ℕ} 0 1 = cc in omega arith)
 accepted-only MissingWords is = absurd (let z : _≡_ {A = ℕ} 0 1 = cc in omega arith)
 accepted-only UnknownOpcode is = absurd (let z : _≡_ {A = ℕ} 0 1 = cc in omega arith)
 accepted-only WrongLength is = absurd (let z : _≡_ {A = ℕ} 0 1 = cc in omega arith)

@@ -3,15 +3,17 @@ use mathlib.Core.Bool.{Bool}
 use Prim.Native.Nat.{ℕ}
 use lib.Dec.{eqb}
 use Rattle.message.specs.declared.codes.Code.{Code}
-use Rattle.message.specs.declared.codes.Code.the-variants.{Accepted, Full, Empty, NoSuchLane, Unfit, Malformed, MissingWords, UnknownOpcode, WrongLength, WrongSource, UnknownRecord}
+use Rattle.message.specs.declared.codes.Code.the-variants.{Accepted, Full, Empty, NoSuchLane, NoSuchRecord, Unfit, Malformed, AtLimit, MissingWords, UnknownOpcode, WrongLength, WrongSource, UnknownRecord}
 
 abbrev pub number : Code → ℕ
 number Accepted = 0
 number Full = 3
 number Empty = 4
 number NoSuchLane = 7
+number NoSuchRecord = 8
 number Unfit = 9
 number Malformed = 10
+number AtLimit = 11
 number MissingWords = 12
 number UnknownOpcode = 13
 number WrongLength = 14

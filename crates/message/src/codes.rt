@@ -13,10 +13,14 @@ pub enum Code {
     Empty,
     /// There is no such terminal or lane.
     NoSuchLane,
+    /// There is no such record.
+    NoSuchRecord,
     /// Sizes or parts do not fit.
     Unfit,
     /// The message is malformed.
     Malformed,
+    /// A record has as many holders as the limit allows.
+    AtLimit,
     /// Words of a packet are missing.
     MissingWords,
     /// The opcode of a header is that of no kind.
@@ -46,8 +50,10 @@ impl Code {
             Code::Full => 3,
             Code::Empty => 4,
             Code::NoSuchLane => 7,
+            Code::NoSuchRecord => 8,
             Code::Unfit => 9,
             Code::Malformed => 10,
+            Code::AtLimit => 11,
             Code::MissingWords => 12,
             Code::UnknownOpcode => 13,
             Code::WrongLength => 14,
