@@ -7,7 +7,7 @@ use lib.Dec.{eqb, ltb}
 use Rattle.std.specs.declared.option.Option.the-variants.{Some}
 use Rattle.std.proofs.shelf.Tests.{cases-eq, cond-true, cond-false, eq-eqb, ne-eqb, lt-ltb, le-ltb, or-right, or-left, or-from}
 use Rattle.message.specs.declared.codes.Code.{Code}
-use Rattle.message.specs.declared.codes.Code.the-variants.{Accepted, NoSuchLane, NoSuchRecord, AtLimit}
+use Rattle.message.specs.declared.codes.Code.the-variants.{Accepted, NoSuchTerminal, NoSuchRecord, AtLimit}
 use Rattle.message.specs.Codes.{accepted}
 use Rattle.message.specs.Checks.{given}
 use Rattle.directory.specs.Directories.{Holders, View, Sound, count, next}
@@ -23,7 +23,7 @@ joined-same h r t e = fun-ext (λ q. fun-ext (λ u. by q u (cases-eq q r) (cases
   by q u (inl m) (inr n) = ap₂ (λ x y. (x && y) || h q u) (eq-eqb q r m) (ne-eqb u t n)
 
 -- an add of a terminal that is not served
-pub terminal-refused : (v : View) (r t : ℕ) → r < v .records → v .terminals ≤ t → add-code v r t ≡ NoSuchLane
+pub terminal-refused : (v : View) (r t : ℕ) → r < v .records → v .terminals ≤ t → add-code v r t ≡ NoSuchTerminal
 terminal-refused v r t h k = rw (lt-ltb r (v .records) h, le-ltb t (v .terminals) k)
 
 -- an add of a holder

@@ -3,7 +3,7 @@ use mathlib.Core.Bool.{cond, not, _&&_, _||_}
 use Prim.Native.Nat.{ℕ}
 use lib.Dec.{eqb, ltb}
 use Rattle.message.specs.declared.codes.Code.{Code}
-use Rattle.message.specs.declared.codes.Code.the-variants.{Accepted, NoSuchLane, NoSuchRecord, AtLimit}
+use Rattle.message.specs.declared.codes.Code.the-variants.{Accepted, NoSuchTerminal, NoSuchRecord, AtLimit}
 use Rattle.message.specs.Codes.{accepted}
 use Rattle.message.specs.Checks.{given}
 use Rattle.directory.specs.Directories.{Holders, View, count}
@@ -24,7 +24,7 @@ emptied h r q u = not (eqb q r) && h q u
 abbrev pub add-code : View → ℕ → ℕ → Code
 add-code v r t =
     given (ltb r (v .records)) NoSuchRecord
-    (given (ltb t (v .terminals)) NoSuchLane
+    (given (ltb t (v .terminals)) NoSuchTerminal
     (given (v .holders r t || ltb (count v r) (v .limit)) AtLimit Accepted))
 
 -- After an accepted add the terminal is a holder; a refusal changes nothing.

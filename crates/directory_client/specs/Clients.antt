@@ -5,7 +5,7 @@ use lib.Dec.{eqb, ltb}
 use Rattle.std.specs.declared.option.Option.{Option}
 use Rattle.std.specs.declared.option.Option.the-variants.{None}
 use Rattle.message.specs.declared.codes.Code.{Code}
-use Rattle.message.specs.declared.codes.Code.the-variants.{Accepted, NoSuchLane, NoSuchRecord}
+use Rattle.message.specs.declared.codes.Code.the-variants.{Accepted, NoSuchTerminal, NoSuchRecord}
 use Rattle.message.specs.Checks.{given}
 use Rattle.message.specs.Codes.{accepted}
 use Rattle.directory.specs.Directories.{Holders, View, count, next}
@@ -13,7 +13,7 @@ use Rattle.directory.specs.Changes.{with-holders}
 
 -- A hand-over: the record and then the terminal must be served.
 abbrev pub hand-over-code : View → ℕ → ℕ → Code
-hand-over-code v r t = given (ltb r (v .records)) NoSuchRecord (given (ltb t (v .terminals)) NoSuchLane Accepted)
+hand-over-code v r t = given (ltb r (v .records)) NoSuchRecord (given (ltb t (v .terminals)) NoSuchTerminal Accepted)
 
 -- Terminal t alone holds record r; the sets of other records stay.
 abbrev pub alone : Holders → ℕ → ℕ → Holders

@@ -15,7 +15,7 @@ pub fn hand_over<D: Directory>(d: &mut D, r: usize, t: usize) -> Code
         return Code::NoSuchRecord;
     }
     if t >= d.terminals() {
-        return Code::NoSuchLane;
+        return Code::NoSuchTerminal;
     }
     let _ = d.clear(r);
     d.add(r, t)

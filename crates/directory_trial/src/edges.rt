@@ -27,7 +27,7 @@ fn sizes_are_from_1_to_64() -> Result<(), Fail> {
 // What any directory of 2 records and 10 terminals answers.
 fn turns_away<D: Directory>(d: &mut D) -> Result<(), Fail> {
     check_eq(d.add(2, 10), Code::NoSuchRecord)?;
-    check_eq(d.add(1, 10), Code::NoSuchLane)?;
+    check_eq(d.add(1, 10), Code::NoSuchTerminal)?;
     check_eq(d.clear(2), Code::NoSuchRecord)?;
     check(!d.holds(2, 0) && d.count(2) == 0 && d.next(2, 0) == None)?;
     check(!d.holds(1, 10) && d.next(1, 10) == None)?;

@@ -29,7 +29,7 @@ pub impl Directory for FullMap as FullMapDirectory {
             return Code::NoSuchRecord;
         }
         if t >= self.terminals {
-            return Code::NoSuchLane;
+            return Code::NoSuchTerminal;
         }
         self.words[r] = self.words[r] | 1u64 << t;
         Code::Accepted

@@ -12,7 +12,7 @@ use Rattle.std.specs.declared.option.Option.{Option}
 use Rattle.std.specs.declared.option.Option.the-variants.{None}
 use Rattle.std.specs.shelf.Maps.{nth}
 use Rattle.message.specs.declared.codes.Code.{Code}
-use Rattle.message.specs.declared.codes.Code.the-variants.{NoSuchLane}
+use Rattle.message.specs.declared.codes.Code.the-variants.{NoSuchTerminal}
 use Rattle.message.specs.Lists.{with-list}
 use Rattle.message.proofs.Lists.{with-is}
 use Rattle.ring.specs.Spans.{within}
@@ -56,7 +56,7 @@ landed xs spans count size l ys span answer rule change room there listed kept c
     let yes = lt-ltb l count there in
     record {
       room = omega (arith, length-over xs ys count size l room there long);
-      answers = code ∙ ap rule is ∙ sym (cond-true (ltb l count) (rule (waiting-in xs spans size l)) NoSuchLane yes);
+      answers = code ∙ ap rule is ∙ sym (cond-true (ltb l count) (rule (waiting-in xs spans size l)) NoSuchTerminal yes);
       holds =
           lands xs spans count size l ys span room there listed long ∙ ap (with-list (waiting-in xs spans size) l) (items ∙ ap change is)
           ∙ sym (cond-true (ltb l count) _ (waiting-in xs spans size) yes);

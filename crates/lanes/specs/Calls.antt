@@ -8,13 +8,13 @@ use Rattle.std.specs.declared.option.Option.{Option}
 use Rattle.std.specs.declared.option.Option.the-variants.{None}
 use Rattle.std.specs.shelf.Maps.{nth}
 use Rattle.message.specs.declared.codes.Code.{Code}
-use Rattle.message.specs.declared.codes.Code.the-variants.{NoSuchLane}
+use Rattle.message.specs.declared.codes.Code.the-variants.{NoSuchTerminal}
 use Rattle.message.specs.Checks.{given}
 use Rattle.message.specs.Lists.{with-list}
 
 -- Is the lane there? Then what its ring answers.
 abbrev pub checked : ℕ → ℕ → Code → Code
-checked count l code = given (ltb l count) NoSuchLane code
+checked count l code = given (ltb l count) NoSuchTerminal code
 
 -- If it is, it holds another list; the other lanes stay.
 abbrev pub changed : {X : Type 0} → ℕ → (ℕ → List X) → ℕ → List X → ℕ → List X

@@ -87,7 +87,7 @@ impl<'a, T: Copy> Lanes<'a, T> {
         ensures lender { λ _. ⌜ name (now (self .exit) .slots) ≡ name (now (self .entry) .slots) ⌝ }
     {
         if lane >= self.count {
-            return Code::NoSuchLane;
+            return Code::NoSuchTerminal;
         }
         let from = lane * self.size;
         let to = from + self.size;
@@ -109,7 +109,7 @@ impl<'a, T: Copy> Lanes<'a, T> {
         ensures lender { λ _. ⌜ name (now (self .exit) .slots) ≡ name (now (self .entry) .slots) ⌝ }
     {
         if lane >= self.count {
-            return Code::NoSuchLane;
+            return Code::NoSuchTerminal;
         }
         let from = lane * self.size;
         let to = from + self.size;

@@ -3,13 +3,13 @@ use mathlib.Core.Bool.{Bool}
 use Prim.Native.Nat.{ℕ}
 use lib.Dec.{eqb}
 use Rattle.message.specs.declared.codes.Code.{Code}
-use Rattle.message.specs.declared.codes.Code.the-variants.{Accepted, Full, Empty, NoSuchLane, NoSuchRecord, Unfit, Malformed, AtLimit, MissingWords, UnknownOpcode, WrongLength, WrongSource, UnknownRecord}
+use Rattle.message.specs.declared.codes.Code.the-variants.{Accepted, Full, Empty, NoSuchTerminal, NoSuchRecord, Unfit, Malformed, AtLimit, MissingWords, UnknownOpcode, WrongLength, WrongSource, UnknownRecord}
 
 abbrev pub number : Code → ℕ
 number Accepted = 0
 number Full = 3
 number Empty = 4
-number NoSuchLane = 7
+number NoSuchTerminal = 7
 number NoSuchRecord = 8
 number Unfit = 9
 number Malformed = 10

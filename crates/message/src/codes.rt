@@ -11,8 +11,8 @@ pub enum Code {
     Full,
     /// A lane is empty.
     Empty,
-    /// There is no such terminal or lane.
-    NoSuchLane,
+    /// There is no such terminal, or no such lane: lane t is that of terminal t.
+    NoSuchTerminal,
     /// There is no such record.
     NoSuchRecord,
     /// Sizes or parts do not fit.
@@ -49,7 +49,7 @@ impl Code {
             Code::Accepted => 0,
             Code::Full => 3,
             Code::Empty => 4,
-            Code::NoSuchLane => 7,
+            Code::NoSuchTerminal => 7,
             Code::NoSuchRecord => 8,
             Code::Unfit => 9,
             Code::Malformed => 10,

@@ -2,12 +2,12 @@
 use Prim.Native.Nat.{ℕ, _<_, _≤_}
 use lib.ListN.{length}
 use Rattle.std.proofs.shelf.Tests.{le-leb, le-ltb, lt-leb, lt-ltb}
-use Rattle.message.specs.declared.codes.Code.the-variants.{Accepted, Empty, NoSuchLane}
+use Rattle.message.specs.declared.codes.Code.the-variants.{Accepted, Empty, NoSuchTerminal}
 use Rattle.message.specs.Lists.{with-list}
 use Rattle.network.specs.Traffic.{Traffic, drop-code, drop-waiting, later}
 use Rattle.network.proofs.Puts.{Did}
 
-pub drop-absent : (t : Traffic) (l : ℕ) → t .lanes ≤ l → Did NoSuchLane (drop-code t l) (t .waiting) (drop-waiting t l)
+pub drop-absent : (t : Traffic) (l : ℕ) → t .lanes ≤ l → Did NoSuchTerminal (drop-code t l) (t .waiting) (drop-waiting t l)
 unfolding drop-code drop-waiting
 drop-absent t l past = let no = le-ltb l (t .lanes) past in record { code = rw no; waiting = rw no }
 

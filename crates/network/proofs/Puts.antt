@@ -7,7 +7,7 @@ use lib.ListN.{length}
 use Rattle.std.proofs.shelf.Tests.{le-ltb, lt-ltb}
 use Rattle.message.specs.declared.Message.{Message}
 use Rattle.message.specs.declared.codes.Code.{Code}
-use Rattle.message.specs.declared.codes.Code.the-variants.{Accepted, Full, NoSuchLane, Malformed}
+use Rattle.message.specs.declared.codes.Code.the-variants.{Accepted, Full, NoSuchTerminal, Malformed}
 use Rattle.message.specs.Lists.{with-list}
 use Rattle.message.specs.Messages.{well-formed}
 use Rattle.network.specs.Traffic.{Traffic, put-code, put-waiting}
@@ -17,7 +17,7 @@ pub record Did (answer ruled : Code) (left meant : ℕ → List Message) : Type 
   pub code : answer ≡ ruled
   pub waiting : left ≡ meant
 
-pub put-absent : (t : Traffic) (l : ℕ) (m : Message) → t .lanes ≤ l → Did NoSuchLane (put-code t l m) (t .waiting) (put-waiting t l m)
+pub put-absent : (t : Traffic) (l : ℕ) (m : Message) → t .lanes ≤ l → Did NoSuchTerminal (put-code t l m) (t .waiting) (put-waiting t l m)
 unfolding put-code put-waiting
 put-absent t l m past = let no = le-ltb l (t .lanes) past in record { code = rw no; waiting = rw no }
 

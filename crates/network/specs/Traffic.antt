@@ -9,7 +9,7 @@ use Rattle.std.specs.declared.option.Option.the-variants.{None}
 use Rattle.std.specs.shelf.Maps.{nth}
 use Rattle.message.specs.declared.Message.{Message}
 use Rattle.message.specs.declared.codes.Code.{Code}
-use Rattle.message.specs.declared.codes.Code.the-variants.{Accepted, Full, Empty, NoSuchLane, Malformed}
+use Rattle.message.specs.declared.codes.Code.the-variants.{Accepted, Full, Empty, NoSuchTerminal, Malformed}
 use Rattle.message.specs.Checks.{given}
 use Rattle.message.specs.Codes.{accepted}
 use Rattle.message.specs.Lists.{with-list}
@@ -40,7 +40,7 @@ oldest t l = cond (has-lane t l) (nth (t .waiting l) 0) None
 -- Put: is the lane there, then is the message well formed, then do fewer messages wait than the depth?
 unfoldable pub put-code : Traffic → ℕ → Message → Code
 put-code t l m =
-    given (has-lane t l) NoSuchLane
+    given (has-lane t l) NoSuchTerminal
     (given (well-formed m) Malformed
     (given (ltb (length (t .waiting l)) (t .depth)) Full
     Accepted))
@@ -55,7 +55,7 @@ after-put t l m = with-waiting t (put-waiting t l m)
 -- Drop: is the lane there, then does a message wait?
 unfoldable pub drop-code : Traffic → ℕ → Code
 drop-code t l =
-    given (has-lane t l) NoSuchLane
+    given (has-lane t l) NoSuchTerminal
     (given (leb 1 (length (t .waiting l))) Empty
     Accepted)
 

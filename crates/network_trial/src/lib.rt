@@ -86,8 +86,8 @@ mod tests {
     // Lanes that are not there, and every way to be malformed; nothing is left behind.
     fn refuses<N: Network>(net: &mut N) -> Result<(), Fail> {
         let none = view(Code::Malformed, 0, None);
-        check_eq(put(net, 2, blank()), view(Code::NoSuchLane, 0, None))?;
-        check_eq(drop_head(net, 2), view(Code::NoSuchLane, 0, None))?;
+        check_eq(put(net, 2, blank()), view(Code::NoSuchTerminal, 0, None))?;
+        check_eq(drop_head(net, 2), view(Code::NoSuchTerminal, 0, None))?;
         check_eq(put(net, 0, blank()), none)?;
         check_eq(
             put(

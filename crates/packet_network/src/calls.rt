@@ -78,7 +78,7 @@ pub impl Network for PacketNetwork<'_> as PacketNetworkNetwork {
 
     fn put(&mut self, lane: usize, message: Message) -> Code {
         if lane >= self.lanes() {
-            return Code::NoSuchLane;
+            return Code::NoSuchTerminal;
         }
         if !message.is_well_formed() {
             return Code::Malformed;
@@ -96,7 +96,7 @@ pub impl Network for PacketNetwork<'_> as PacketNetworkNetwork {
 
     fn drop_head(&mut self, lane: usize) -> Code {
         if lane >= self.lanes() {
-            return Code::NoSuchLane;
+            return Code::NoSuchTerminal;
         }
         let waiting = self.counts[lane];
         if waiting == 0 {

@@ -76,7 +76,7 @@ pub impl<D: Directory> Directory for Pointers<D> as PointersDirectory {
             return Code::NoSuchRecord;
         }
         if t >= self.below.terminals() {
-            return Code::NoSuchLane;
+            return Code::NoSuchTerminal;
         }
         if self.holds(r, t) {
             return Code::Accepted;

@@ -10,7 +10,7 @@ use native.Mathlib.Omega.{arith}
 use Rattle.std.proofs.shelf.Tests.{cases-lt, cond-false, cond-true, le-ltb, lt-ltb}
 use Rattle.message.specs.declared.Message.{Message}
 use Rattle.message.specs.declared.codes.Code.{Code}
-use Rattle.message.specs.declared.codes.Code.the-variants.{NoSuchLane}
+use Rattle.message.specs.declared.codes.Code.the-variants.{NoSuchTerminal}
 use Rattle.message.specs.Lists.{with-list}
 use Rattle.message.specs.Messages.{well-formed}
 use Rattle.message.proofs.Lists.{with-self}
@@ -24,7 +24,7 @@ use Rattle.network.proofs.Drops as drops
 
 -- A lane that is there.
 there-code : (count l : ℕ) (code : Code) → l < count → checked count l code ≡ code
-there-code count l code there = cond-true (ltb l count) code NoSuchLane (lt-ltb l count there)
+there-code count l code there = cond-true (ltb l count) code NoSuchTerminal (lt-ltb l count there)
 
 there-lists : (count : ℕ) (lists : ℕ → List Message) (l : ℕ) (new : List Message) → l < count → changed count lists l new ≡ with-list lists l new
 there-lists count lists l new there = cond-true (ltb l count) (with-list lists l new) lists (lt-ltb l count there)
@@ -69,7 +69,7 @@ drop-meant t l =
     (λ (past : t .lanes ≤ l). let no = le-ltb l (t .lanes) past in
     let meant = drops.drop-absent t l past in
     record {
-      code = cond-false (ltb l (t .lanes)) (discard-code 1 old) NoSuchLane no ∙ meant .code;
+      code = cond-false (ltb l (t .lanes)) (discard-code 1 old) NoSuchTerminal no ∙ meant .code;
       waiting = cond-false (ltb l (t .lanes)) (with-list (t .waiting) l (discard-list 1 old)) (t .waiting) no ∙ meant .waiting;
     })
     (cases-lt l (t .lanes))

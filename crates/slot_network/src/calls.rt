@@ -63,7 +63,7 @@ pub impl Network for SlotNetwork<'_> as SlotNetworkNetwork {
 
     fn put(&mut self, lane: usize, message: Message) -> Code {
         if lane >= self.lanes() {
-            return Code::NoSuchLane;
+            return Code::NoSuchTerminal;
         }
         if !message.is_well_formed() {
             return Code::Malformed;
