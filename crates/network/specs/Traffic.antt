@@ -45,7 +45,7 @@ put-code t l m =
     (given (ltb (length (t .waiting l)) (t .depth)) Full
     Accepted))
 
--- If so, it joins the end of its lane; else nothing changes. Other lanes never change.
+-- If so, it joins the end of its lane; else nothing changes. The other lanes stay.
 unfoldable pub put-waiting : Traffic → ℕ → Message → ℕ → List Message
 put-waiting t l m = cond (accepted (put-code t l m)) (with-list (t .waiting) l (t .waiting l ++ m ∷ [])) (t .waiting)
 
@@ -64,7 +64,7 @@ abbrev pub later : List Message → List Message
 later [] = []
 later (m ∷ ms) = ms
 
--- If so, the oldest goes; else nothing changes. Other lanes never change.
+-- If so, the oldest goes; else nothing changes. The other lanes stay.
 unfoldable pub drop-waiting : Traffic → ℕ → ℕ → List Message
 drop-waiting t l = cond (accepted (drop-code t l)) (with-list (t .waiting) l (later (t .waiting l))) (t .waiting)
 
