@@ -1,15 +1,13 @@
 -- What adds and clears do to the view of a directory, case by case.
-use mathlib.Core.Path.{_≡_, refl, sym, _∙_, ap, ap₂, subst, fun-ext}
-use mathlib.Core.Bool.{true, false, cond, _&&_, _||_}
+use mathlib.Core.Path.{_≡_, sym, _∙_, ap, ap₂, subst, fun-ext}
+use mathlib.Core.Bool.{true, false, _&&_, _||_}
 use mathlib.Core.Logic.{_⊎_, inl, inr}
 use Prim.Native.Nat.{ℕ, _≤_, _<_}
-use lib.Dec.{eqb, ltb}
+use lib.Dec.{eqb}
 use Rattle.std.specs.declared.option.Option.the-variants.{Some}
-use Rattle.std.proofs.shelf.Tests.{cases-eq, cond-true, cond-false, eq-eqb, ne-eqb, lt-ltb, le-ltb, or-right, or-left, or-from}
-use Rattle.message.specs.declared.codes.Code.{Code}
+use Rattle.std.proofs.shelf.Tests.{cases-eq, cond-true, cond-false, eq-eqb, ne-eqb, lt-ltb, le-ltb, or-right, or-left}
 use Rattle.message.specs.declared.codes.Code.the-variants.{Accepted, NoSuchTerminal, NoSuchRecord, AtLimit}
 use Rattle.message.specs.Codes.{accepted}
-use Rattle.message.specs.Checks.{given}
 use Rattle.directory.specs.Directories.{Holders, View, Sound, count, next}
 use Rattle.directory.specs.Changes.{joined, emptied, with-holders, add-code, added, clear-code, cleared}
 use Rattle.directory.proofs.Finding.{Found, found}
@@ -36,12 +34,6 @@ pub newcomer-accepted : (v : View) (r t : ℕ) → r < v .records → t < v .ter
 newcomer-accepted v r t h k l =
     rw (lt-ltb r (v .records) h, lt-ltb t (v .terminals) k) (cond-true _ Accepted AtLimit (or-right (v .holders r t) _ (lt-ltb (count v r) (v .limit) l)))
 
--- an add of another terminal at the limit
-pub newcomer-refused : (v : View) (r t : ℕ) → r < v .records → t < v .terminals → v .holders r t ≡ false → v .limit ≤ count v r
-    → add-code v r t ≡ AtLimit
-newcomer-refused v r t h k e l =
-    rw (lt-ltb r (v .records) h, lt-ltb t (v .terminals) k) (cond-false _ Accepted AtLimit (or-from (v .holders r t) _ e (le-ltb (count v r) (v .limit) l)))
-
 -- what an accepted add leaves
 pub added-accepted : (v : View) (r t : ℕ) → add-code v r t ≡ Accepted → added v r t ≡ with-holders v (joined (v .holders) r t)
 added-accepted v r t e = ap (with-holders v) (cond-true (accepted (add-code v r t)) _ _ (ap accepted e))
@@ -61,7 +53,7 @@ clear-accepted v r h = cond-true _ Accepted NoSuchRecord (lt-ltb r (v .records) 
 pub cleared-accepted : (v : View) (r : ℕ) → r < v .records → cleared v r ≡ with-holders v (emptied (v .holders) r)
 cleared-accepted v r h = ap (with-holders v) (cond-true (accepted (clear-code v r)) _ _ (ap accepted (clear-accepted v r h)))
 
--- what `next` answers is a holder, at or above t
+-- what `next` answers is a holder, at or above t: so a walk over the holders ends
 pub next-holder : (v : View) (r t u : ℕ) → Sound v → next v r t ≡ Some u → (t ≤ u) × (u < v .terminals) × (v .holders r u ≡ true)
 next-holder v r t u s e =
     let f : Found (v .holders r) t 64 (Some u) = subst (Found (v .holders r) t 64) e (found (v .holders r) t 64) in

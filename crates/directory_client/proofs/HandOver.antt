@@ -1,14 +1,13 @@
 -- A clear and an add make a terminal the only holder, since an empty record is below every limit.
 use mathlib.Core.Path.{_≡_, refl, sym, _∙_, ap, fun-ext}
 use mathlib.Core.Bool.{Bool, true, false, cond, not, _&&_, _||_}
-use mathlib.Core.Logic.{⊎-elim}
-use Prim.Native.Nat.{ℕ, _≤_, _<_}
+use Prim.Native.Nat.{ℕ, _<_}
 use native.Mathlib.Omega.{arith}
-use lib.Dec.{eqb, ltb}
+use lib.Dec.{eqb}
 use Rattle.std.proofs.shelf.Tests.{lt-ltb, eq-eqb, cond-true}
 use Rattle.message.specs.Codes.{accepted}
 use Rattle.message.specs.declared.codes.Code.the-variants.{Accepted}
-use Rattle.directory.specs.Directories.{Holders, View, Sound, count}
+use Rattle.directory.specs.Directories.{Holders, View, Sound}
 use Rattle.directory.specs.Changes.{joined, emptied, with-holders, add-code, added, cleared}
 use Rattle.directory.proofs.Counting.{tally-none}
 use Rattle.directory.proofs.Adding.{newcomer-accepted, added-accepted, cleared-accepted}

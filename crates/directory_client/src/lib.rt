@@ -1,7 +1,5 @@
 // What can be done with any directory, proved from the meaning alone.
 ghost use mathlib.Core.Path.{_≡_};
-ghost use Rattle.directory.specs.Directories.{View};
-ghost use Rattle.directory.specs.Changes.{clear-code, cleared, add-code, added};
 ghost use Rattle.directory_client.specs.Clients.{hand-over-code, handed-over, only-holder};
 use directory::Directory;
 use message::Code;

@@ -1,5 +1,4 @@
 // The calls of a full map, by shifts and masks.
-ghost use mathlib.Core.Path.{_≡_};
 ghost use Rattle.full_map.specs.Maps.{map-view, Makes};
 use crate::FullMap;
 use directory::Directory;

@@ -5,7 +5,7 @@ use Prim.Native.Nat.{ℕ, zero, suc, _+_, _-_, _≤_, _<_}
 use lib.ListN.{length, getD, set}
 use native.Mathlib.Omega.{arith}
 use Rattle.std.specs.declared.option.Option.{Option}
-use Rattle.std.specs.declared.option.Option.the-variants.{Some, None}
+use Rattle.std.specs.declared.option.Option.the-variants.{Some}
 use Rattle.std.specs.declared.result.Result.the-variants.{Ok, Err}
 use Rattle.message.specs.declared.kinds.Kind.{Kind}
 use Rattle.message.specs.declared.kinds.Kind.the-variants.{ReadRequest, WriteRequest, Replacement, Update, Acknowledgement, ReadData, WriteData, Invalidate, Busy}
@@ -16,7 +16,6 @@ use Rattle.packet.specs.Layout.{packet-words}
 use Rattle.packet.specs.Reading.{packet-at}
 use Rattle.packet.specs.Streams.{Walk, walk-from}
 use Rattle.packet.proofs.Walks.{walk-end, walk-on, walk-stop}
-use Rattle.listing.specs.declared.Line.{Line}
 use Rattle.listing.specs.declared.Line.the-variants as line
 use Rattle.listing.specs.declared.walking.Stage.{Stage}
 use Rattle.listing.specs.declared.walking.Stage.the-variants.{Counting, Walking}

@@ -1,21 +1,20 @@
 -- Packets one after another are read as they were written, and written as they were read.
-use mathlib.Core.Bool.{Bool, true, false, cond, _&&_}
+use mathlib.Core.Bool.{true, false}
 use mathlib.Core.List.{List, [], _∷_, _++_}
-use mathlib.Core.Path.{_≡_, _∙_, ap, refl, sym, subst}
+use mathlib.Core.Path.{_≡_, _∙_, ap, refl, sym}
 use Prim.Native.Nat.{ℕ, zero, suc, _+_, _-_, _≤_, _<_}
 use lib.Dec.{leb}
-use lib.ListN.{length, take, drop, length-drop, length-append}
+use lib.ListN.{length, take, drop, length-append}
 use native.Mathlib.Omega.{arith}
 use Rattle.std.proofs.shelf.Lists.{append-assoc, append-nil, drop-all, drop-at, drop-drop, getD-drop, take-append-drop}
-use Rattle.std.proofs.shelf.Tests.{and-parts, le-leb, leb-true, leb-false, lt-leb}
-use Rattle.std.specs.declared.option.Option.{Option}
+use Rattle.std.proofs.shelf.Tests.{and-parts, le-leb, leb-true, lt-leb}
 use Rattle.std.specs.declared.option.Option.the-variants.{Some, None}
 use Rattle.std.specs.declared.result.Result.{Result}
 use Rattle.std.specs.declared.result.Result.the-variants.{Ok, Err}
 use Rattle.packet.specs.declared.Fault.{Fault}
 use Rattle.packet.specs.declared.Packet.{Packet}
 use Rattle.packet.specs.Layout.{packet-words}
-use Rattle.packet.specs.Reading.{packet-at, front-packet, Stands}
+use Rattle.packet.specs.Reading.{packet-at}
 use Rattle.packet.specs.Streams.{Walk, ended, onward, led-by, walk-from, walk, stream, all-sendable}
 use Rattle.packet.specs.Writing.{sendable}
 use Rattle.packet.proofs.Accepts.{sendable-some}

@@ -14,7 +14,7 @@ use Rattle.std.specs.declared.result.Result.{Result}
 use Rattle.std.specs.declared.result.Result.the-variants.{Ok, Err}
 use Rattle.message.specs.declared.kinds.Kind.{Kind}
 use Rattle.message.specs.Checks.{given}
-use Rattle.message.specs.Kinds.{kind-of, opcode-of, carries-value, words-of}
+use Rattle.message.specs.Kinds.{kind-of, carries-value, words-of}
 use Rattle.message.proofs.Opcodes.{kind-of-opcode, opcode-of-kind}
 use Rattle.packet.specs.declared.Fault.{Fault}
 use Rattle.packet.specs.declared.Packet.{Packet}

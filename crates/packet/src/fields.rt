@@ -1,6 +1,6 @@
 // The fields of a header and the halves of a value, each by one shift or mask.
 ghost use mathlib.Core.Path.{_≡_};
-ghost use Prim.Native.Nat.{_+_, _*_, _/_, _%_, _^_};
+ghost use Prim.Native.Nat.{_/_, _%_, _^_};
 ghost use Rattle.packet.specs.Layout.{header, opcode-in, length-in, source-in, value-in, source-fits};
 use message::Kind;
 

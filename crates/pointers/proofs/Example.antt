@@ -1,24 +1,23 @@
 -- The worked example, over every directory.
-use mathlib.Core.Path.{_≡_, refl, sym, _∙_, ap}
-use mathlib.Core.Bool.{Bool, true, false, _&&_, _||_}
+use mathlib.Core.Path.{_≡_, refl, _∙_, ap}
+use mathlib.Core.Bool.{_&&_, _||_}
 use mathlib.Core.List.{List, [], _∷_}
 use mathlib.Core.Logic.{_⊎_, inl, inr}
 use Prim.Native.Nat.{ℕ, _≤_, _<_}
 use native.Mathlib.Omega.{arith}
 use lib.Dec.{eqb, ltb}
-use lib.ListN.{length, getD, set}
 use lib.Seq.{getD-set-same}
 use Rattle.std.proofs.shelf.Tests.{cases-lt, cond-true, eq-eqb, ne-eqb, lt-ltb, le-ltb}
 use Rattle.directory.specs.Sets.{least, tally}
-use Rattle.directory.specs.Directories.{View, Sound}
+use Rattle.directory.specs.Directories.{View}
 use Rattle.pointers.specs.declared.rows.Row.{Row}
 use Rattle.pointers.specs.declared.rows.Placed.{Placed}
 use Rattle.std.specs.declared.option.Option.the-variants.{Some}
 use Rattle.pointers.specs.Rows.{free, has, row-of, placed}
-use Rattle.pointers.specs.Layers.{over, spilled, sent}
-use Rattle.pointers.specs.Examples.{full-row, Full, Spilled, Spills}
+use Rattle.pointers.specs.Layers.{over, sent}
+use Rattle.pointers.specs.Examples.{full-row, Spills}
 use Rattle.pointers.proofs.Unions.{union}
-use Rattle.pointers.proofs.Sinking.{sunk, sinks}
+use Rattle.pointers.proofs.Sinking.{sinks}
 
 -- no place of the row is free
 makes-way : placed full-row 9 ≡ record { row = record { numbers = 9 ∷ free ∷ free ∷ free ∷ [] }; below = Some (full-row .numbers) }
@@ -42,10 +41,6 @@ spills rows v r full = record {
 
   room : tally (union v four r) 64 ≤ v .limit
   room = omega (arith, same, full .room)
-
-  no : (a : Bool) → ((a && false) && has four 0) ≡ false
-  no true = refl
-  no false = refl
 
   all-served : (u : ℕ) → (u < v .terminals) ⊎ (v .terminals ≤ u) → ((ltb r (v .records) && ltb u (v .terminals)) && has four u) ≡ has four u
   all-served u (inl l) = rw (lt-ltb r (v .records) (full .served), lt-ltb u (v .terminals) l)

@@ -3,10 +3,10 @@ use mathlib.Core.Path.{_≡_, refl, sym, _∙_, ap, subst, fun-ext}
 use mathlib.Core.Bool.{Bool, true, false, cond, _&&_, _||_}
 use mathlib.Core.List.{List, [], _∷_}
 use mathlib.Core.Logic.{_⊎_, inl, inr, ⊎-elim}
-use Prim.Native.Nat.{ℕ, _≤_, _<_, _+_}
+use Prim.Native.Nat.{ℕ, _≤_, _<_}
 use native.Mathlib.Omega.{arith}
 use lib.Dec.{eqb, ltb}
-use Rattle.std.proofs.shelf.Tests.{cases-eq, cases-lt, cases-bool, cond-true, cond-false, eq-eqb, ne-eqb, lt-ltb, le-ltb, or-right}
+use Rattle.std.proofs.shelf.Tests.{cases-eq, cases-lt, cases-bool, cond-true, cond-false, eq-eqb, ne-eqb, le-ltb, or-right}
 use Rattle.message.specs.Codes.{accepted}
 use Rattle.directory.specs.Sets.{tally}
 use Rattle.directory.specs.Directories.{View, Holders}

@@ -15,7 +15,7 @@ use Rattle.packet.specs.declared.Packet.{Packet}
 use Rattle.packet.specs.Layout.{packet-words}
 use Rattle.packet.specs.Streams.{all-sendable, ended, stream, walk}
 use Rattle.stream.specs.Sending.{stream-code, taken, written-all}
-use Rattle.packet.specs.Writing.{laid-over, sendable, write-code, written}
+use Rattle.packet.specs.Writing.{laid-over, write-code, written}
 use Rattle.packet.proofs.Accepts.{accepted-room, accepted-sendable}
 use Rattle.stream.proofs.Overlays.{Filled, filled-is, filled-on, unfilled}
 use Rattle.packet.proofs.Walks.{streams-read-back}

@@ -1,11 +1,6 @@
-use mathlib.Core.List.{List}
-use mathlib.Core.Path.{_≡_, _∙_, ap}
-use Prim.Native.Nat.{ℕ}
-use lib.ListN.{length, drop, drop-of-length-le}
+use lib.ListN.{length, drop-of-length-le}
 use native.Mathlib.Omega.{arith}
-use borrow.Author.Needs.{needs}
 use Rattle.std.proofs.shelf.Parts.{between-to-end}
-use Rattle.packet.specs.Reading.{front-packet}
 use Rattle.packet.proofs.reader.read.Needs as need
 
 pub returns-then-at-end : need.returns-then-at-end

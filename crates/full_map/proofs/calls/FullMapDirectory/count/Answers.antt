@@ -1,4 +1,4 @@
-use mathlib.Core.Path.{_≡_, sym}
+use mathlib.Core.Path.{sym}
 use native.Mathlib.Omega.{arith}
 use Rattle.directory.proofs.Counting.{tally-none}
 use Rattle.full_map.proofs.Digits.{ones-tally}

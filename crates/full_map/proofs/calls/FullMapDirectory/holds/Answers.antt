@@ -1,4 +1,4 @@
-use mathlib.Core.Path.{_≡_, sym}
+use mathlib.Core.Path.{sym}
 use lib.ListN.{getD}
 use native.Mathlib.Omega.{arith}
 use Rattle.full_map.proofs.Digits.{bit-test}

@@ -1,6 +1,5 @@
 use lib.ListN.{length-drop}
 use native.Mathlib.Omega.{arith}
-use borrow.Author.Needs.{needs}
 use Rattle.packet.proofs.reader.Reader.next.Needs as need
 
 pub add-self : need.add-self

@@ -1,4 +1,4 @@
-use mathlib.Core.Path.{_≡_, _∙_, ap}
+use mathlib.Core.Path.{_∙_, ap}
 use mathlib.Core.List.{List}
 use Rattle.directory.specs.Directories.{View}
 use Rattle.pointers.specs.declared.rows.Row.{Row}

@@ -1,5 +1,4 @@
-use mathlib.Core.Path.{_≡_, _∙_, ap}
-use native.Mathlib.Omega.{arith}
+use mathlib.Core.Path.{_∙_, ap}
 use Rattle.pointers.specs.declared.rows.Row.{Row}
 use Rattle.pointers.specs.declared.rows.Placed.{Placed}
 use Rattle.pointers.specs.Rows.{apart, placed, row-of}

@@ -1,9 +1,8 @@
-use mathlib.Core.Path.{_≡_, sym, _∙_, ap, ap₂}
+use mathlib.Core.Path.{_∙_, ap, ap₂}
 use Prim.Native.Nat.{_<_}
 use native.Mathlib.Omega.{arith}
 use lib.ListN.{length, set}
 use Rattle.directory.specs.Directories.{View}
-use Rattle.pointers.specs.declared.rows.Row.{Row}
 use Rattle.pointers.specs.Layers.{over}
 use Rattle.pointers.proofs.Stores.{clears}
 use Rattle.pointers.proofs.layer.PointersDirectory.clear.Needs as need

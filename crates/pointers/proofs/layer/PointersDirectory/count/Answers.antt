@@ -1,5 +1,5 @@
-use mathlib.Core.Path.{_≡_, sym, _∙_, ap}
-use mathlib.Core.Bool.{Bool, false}
+use mathlib.Core.Path.{sym, _∙_, ap}
+use mathlib.Core.Bool.{Bool}
 use mathlib.Core.List.{List}
 use Prim.Native.Nat.{ℕ, _<_, _≤_, _+_}
 use native.Mathlib.Omega.{arith}
@@ -9,7 +9,7 @@ use Rattle.directory.specs.Sets.{tally}
 use Rattle.directory.specs.Directories.{View}
 use Rattle.directory.proofs.Counting.{tally-none, tally-le}
 use Rattle.pointers.specs.declared.rows.Row.{Row}
-use Rattle.pointers.specs.Rows.{has, apart}
+use Rattle.pointers.specs.Rows.{apart}
 use Rattle.pointers.proofs.Places.{apart-at}
 use Rattle.pointers.proofs.Unions.{union, counts, counted, union-skip, unserved}
 use Rattle.pointers.proofs.layer.PointersDirectory.count.Needs as need
