@@ -39,7 +39,7 @@ walk-from (suc more) words at =
     cond (leb (length words) at) (ended [])
     (led-by (packet-at words at) (λ p. walk-from more words (at + length (packet-words p))))
 
--- The walk over words, which has fewer packets than words.
+-- The walk over words: there are no more packets than words.
 abbrev pub walk : List ℕ → Walk
 walk words = walk-from (length words) words 0
 
