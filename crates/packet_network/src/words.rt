@@ -24,7 +24,7 @@ fn source_in(lane: usize, message: Message) -> u16
 }
 
 /// The words of a message in a lane, and how many they are.
-pub fn words_in(lane: usize, message: Message) -> ([u32; 4], usize)
+pub(crate) fn words_in(lane: usize, message: Message) -> ([u32; 4], usize)
     requires lane { ⌜ lane < 64 ⌝ }
     requires formed { ⌜ well-formed message ≡ true ⌝ }
     ensures words { λ r. ⌜ take (r .1) (r .0) ≡ packet-words (packet-in lane message) ⌝ }
@@ -53,7 +53,7 @@ fn word_at(lanes: &Lanes<'_, u32>, lane: usize, k: usize) -> u32
 }
 
 /// The oldest packet of a lane, or none: the first four of its words, read by the packet reader.
-pub fn oldest_in(lanes: &Lanes<'_, u32>, lane: usize) -> Option<Packet>
+pub(crate) fn oldest_in(lanes: &Lanes<'_, u32>, lane: usize) -> Option<Packet>
     requires standing { ⌜ Standing (now lanes) ⌝ }
     requires lane { ⌜ lane < now lanes .count ⌝ }
     ensures { λ p. ⌜ p ≡ read-front (held (now (lanes .entry)) lane) ⌝ }
@@ -71,7 +71,7 @@ pub fn oldest_in(lanes: &Lanes<'_, u32>, lane: usize) -> Option<Packet>
 }
 
 /// How many words the oldest packet of a lane has: 0 if there is none.
-pub fn oldest_size(lanes: &Lanes<'_, u32>, lane: usize) -> usize
+pub(crate) fn oldest_size(lanes: &Lanes<'_, u32>, lane: usize) -> usize
     requires standing { ⌜ Standing (now lanes) ⌝ }
     requires lane { ⌜ lane < now lanes .count ⌝ }
     ensures { λ n. ⌜ n ≡ size-of (read-front (held (now (lanes .entry)) lane)) ⌝ }

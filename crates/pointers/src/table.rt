@@ -16,7 +16,7 @@ pub struct Table {
 
 impl Table {
     /// A table in which every place is free.
-    pub fn new() -> Table
+    pub(crate) fn new() -> Table
         ensures rows { λ t. ⌜ t .rows ≡ replicate 64 free-row ⌝ }
     {
         Table {
@@ -25,7 +25,7 @@ impl Table {
     }
 
     /// A copy of the row of a record.
-    pub fn row(&self, r: usize) -> Row
+    pub(crate) fn row(&self, r: usize) -> Row
         requires within { ⌜ r < 64 ⌝ }
         ensures value { λ w. ⌜ w ≡ row-of (now (self .entry) .rows) r ⌝ }
     {
@@ -33,7 +33,7 @@ impl Table {
     }
 
     /// Writes the row of a record back.
-    pub fn put(&mut self, r: usize, row: Row)
+    pub(crate) fn put(&mut self, r: usize, row: Row)
         requires within { ⌜ r < 64 ⌝ }
         requires once { ⌜ apart (row .numbers) ≡ true ⌝ }
         ensures rows { λ _. ⌜ now (self .exit) .rows ≡ set (now (self .entry) .rows) r row ⌝ }

@@ -7,7 +7,7 @@ ghost use Rattle.ring.specs.Spans.{within};
 use crate::Span;
 
 /// The slot of the k-th element, of so many slots, where the oldest lies at `start`.
-pub fn slot_of(slots: usize, start: usize, k: usize) -> usize
+pub(crate) fn slot_of(slots: usize, start: usize, k: usize) -> usize
     requires start { ⌜ start ≤ slots ⌝ }
     requires k { ⌜ k < slots ⌝ }
     ensures value { λ at. ⌜ at ≡ place slots start k ⌝ }
