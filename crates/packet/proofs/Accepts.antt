@@ -31,7 +31,7 @@ size-as : (b : Bool) (h r v : ℕ) → length (h ∷ r ∷ value-words b v) ≡ 
 size-as true h r v = refl
 size-as false h r v = refl
 
-two-or-four : (b : Bool) → 2 ≤ cond b 4 2
+pub two-or-four : (b : Bool) → 2 ≤ cond b 4 2
 two-or-four true = omega arith
 two-or-four false = omega arith
 

@@ -16,6 +16,7 @@ use Rattle.message.specs.declared.kinds.Kind.{Kind}
 use Rattle.message.specs.Checks.{given}
 use Rattle.message.specs.Kinds.{kind-of, carries-value, words-of}
 use Rattle.message.proofs.Opcodes.{kind-of-opcode, opcode-of-kind}
+use Rattle.packet.proofs.Accepts.{two-or-four}
 use Rattle.packet.specs.declared.Fault.{Fault}
 use Rattle.packet.specs.declared.Packet.{Packet}
 use Rattle.packet.specs.Layout.{header, opcode-in, length-in, source-in, value-in, value-words, packet-words, source-fits}
@@ -68,10 +69,6 @@ said-formed : (b : Bool) (v r : ℕ) → leb r 63 ≡ true → (leb r 63 && (b |
 said-formed true v r small = rw small
 said-formed false v r small = rw small
 
-at-least-two : (b : Bool) → 2 ≤ cond b 4 2
-at-least-two true = omega arith
-at-least-two false = omega arith
-
 -- The packet that words say, where they pass every check, is written as these words.
 said-handed : (k : Kind) (front : List ℕ) → Words front → kind-of (opcode-in (getD front 0 0)) ≡ Some k → length-in (getD front 0 0) ≡ words-of k
     → words-of k ≤ length front → source-fits k (source-in (getD front 0 0)) ≡ true → leb (getD front 1 0) 63 ≡ true
@@ -81,7 +78,7 @@ said-handed k front fit kind long room fits small =
     let value = value-in (getD front 2 0) (getD front 3 0) in
     let head : header k (source-in h) ≡ h = rw (← long, opcode-of-kind (opcode-in h) k kind) (whole h) in
     let many : length (take (words-of k) front) ≡ words-of k = length-take-le (words-of k) front room in
-    let two : 2 ≤ words-of k = at-least-two (carries-value k) in
+    let two : 2 ≤ words-of k = two-or-four (carries-value k) in
     record {
       sendable = rw kind-of-opcode (rw (said-formed (carries-value k) value (getD front 1 0) small, fits));
       again = rw (kind-of-opcode, head) (rebuilt (carries-value k) front fit room);
