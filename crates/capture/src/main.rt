@@ -1,4 +1,7 @@
 // Reads a capture, hexadecimal words, from standard input, and prints what its packets say.
+
+#![tactic(auto)]
+
 use hex_text::{LONGEST, read_words};
 use listing::{Listing, compare_rewritten};
 use std::io::{BufWriter, Read, Write};

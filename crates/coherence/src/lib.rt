@@ -1,4 +1,7 @@
 // The law of coherence, proved once, over the definitions that the contracts of the home, the terminals and the site cite.
+
+#![tactic(auto)]
+
 ghost use Rattle.protocol.specs.Coherence.{Coherence};
 
 /// Every list of calls on every newly opened site is coherent, whatever its directory and its two networks; and no list of

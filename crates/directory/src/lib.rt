@@ -1,4 +1,7 @@
 // Directories: which terminals hold a copy of each record. The trait is their meaning, and nothing else.
+
+#![tactic(auto)]
+
 ghost use Rattle.std.specs.Prelude.{◌≡◌};
 ghost use Rattle.directory.specs.Directories.{View, Sound, count, next};
 ghost use Rattle.directory.specs.Changes.{add_code, added, clear_code, cleared};

@@ -1,4 +1,7 @@
 // What can be done with any directory, proved from the meaning alone.
+
+#![tactic(auto)]
+
 ghost use Rattle.std.specs.Prelude.{◌≡◌};
 ghost use Rattle.directory_client.specs.Clients.{hand_over_code, handed_over, only_holder};
 

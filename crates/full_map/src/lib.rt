@@ -1,4 +1,7 @@
 // The full map: a directory with one bit for each terminal.
+
+#![tactic(auto)]
+
 ghost use Rattle.std.specs.Prelude.{◌≡◌, ℕ, ◌^◌, ◌<◌, ◌≤◌, slice_index};
 
 mod calls;

@@ -1,4 +1,7 @@
 // Reads the text of a capture, hexadecimal words between white space, into 32-bit words.
+
+#![tactic(auto)]
+
 ghost use Rattle.std.specs.Prelude.{◌≡◌, ◌+◌, ◌^◌, ◌<◌, length, IfSome, Some};
 ghost use Rattle.hex_text.specs.Bytes.{white, hex_digit};
 ghost use Rattle.hex_text.specs.Reading.{no_word, lengthened, past, stray_at, answer_to, buffer_after};

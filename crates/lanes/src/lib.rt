@@ -1,4 +1,7 @@
 // Rings side by side over one slice, for every kind of element: what both networks keep their lanes in.
+
+#![tactic(auto)]
+
 use ring::Span;
 
 mod calls;

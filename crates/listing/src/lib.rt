@@ -1,4 +1,7 @@
 // The listing of a capture: a line for each packet, and then the fault or what the words hold in all.
+
+#![tactic(auto)]
+
 use message::Kind;
 use packet::Fault;
 

@@ -1,4 +1,7 @@
 // What travels between the terminals and the home, and the numbers by which calls answer.
+
+#![tactic(auto)]
+
 ghost use Rattle.std.specs.Prelude.{◌≡◌};
 ghost use Rattle.message.specs.Kinds.{kind_of};
 ghost use Rattle.message.specs.Messages.{message_of, well_formed};

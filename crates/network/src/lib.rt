@@ -1,4 +1,7 @@
 // What a network is, for whoever uses one: the trait, and the meaning that every make of it keeps.
+
+#![tactic(auto)]
+
 ghost use Rattle.std.specs.Prelude.{◌≡◌, ◌≤◌};
 ghost use Rattle.network.specs.Traffic.{Traffic, after_drop, after_put, drop_code, number_waiting, oldest, put_code};
 

@@ -1,4 +1,7 @@
 // Users of networks that know nothing but the trait: what any list of calls does to any network follows from its contracts.
+
+#![tactic(auto)]
+
 ghost use Rattle.std.specs.Prelude.{◌≡◌, ◌≢◌};
 ghost use Rattle.network.specs.Traffic.{after_put, put_code};
 ghost use Rattle.network_client.specs.Runs.{after_call, after_calls, code_of};

@@ -1,5 +1,7 @@
 // Both makes of networks, driven through the trait with the same calls. The tests are run.
 
+#![tactic(auto)]
+
 #[cfg(test)]
 mod tests {
     use message::{Code, Message};

@@ -1,4 +1,7 @@
 // Messages as packets of 32-bit words: the writer and the reader.
+
+#![tactic(auto)]
+
 use message::{Code, Kind, Message};
 
 mod examples;

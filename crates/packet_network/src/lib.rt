@@ -1,4 +1,7 @@
 // A network whose messages wait as packets of 32-bit words.
+
+#![tactic(auto)]
+
 ghost use Rattle.std.specs.Prelude.{◌≡◌, ◌*◌, ◌≤◌};
 ghost use Rattle.lanes.specs.Standing.{Standing, held};
 ghost use Rattle.packet_network.specs.Holds.{Counted, Sendable, Whole, Within};

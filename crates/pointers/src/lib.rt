@@ -1,4 +1,7 @@
 // Pointers: a directory that keeps up to four holders of each record itself, over any other directory.
+
+#![tactic(auto)]
+
 mod examples;
 mod layer;
 mod rows;

@@ -1,6 +1,8 @@
 // The protocol's types. What they mean, every rule, every call and the law of coherence are definitions in specs/, which the
 // contracts of the home, the terminals and the site cite.
 
+#![tactic(auto)]
+
 /// What the home knows of a record.
 #[derive(Clone, Copy, PartialEq, Eq, Debug)]
 pub enum HomeState {

@@ -1,4 +1,7 @@
 // One ring for every kind of element, over slots that the caller lends.
+
+#![tactic(auto)]
+
 ghost use Rattle.std.specs.Prelude.{◌≤◌, length};
 
 mod calls;

@@ -1,4 +1,7 @@
 // A network whose messages wait in slots, one a message.
+
+#![tactic(auto)]
+
 ghost use Rattle.std.specs.Prelude.{◌≤◌};
 ghost use Rattle.lanes.specs.Standing.{Standing};
 

@@ -1,4 +1,7 @@
 // Streams of packets: lists of packets written, and words read and written again.
+
+#![tactic(auto)]
+
 ghost use Rattle.std.specs.Prelude.{◌≡◌, ◌-◌, ◌≤◌, ◌++◌, length, take, drop, OnOk};
 ghost use Rattle.message.specs.declared.codes.Code.TheVariants.{Accepted};
 ghost use Rattle.packet.specs.Streams.{ended, stream, walk};
