@@ -1,10 +1,9 @@
 -- How a change of one part of a site looks in the machine.
-use Rattle.std.proofs.Common.{◌≡◌, ℕ, zero, suc, ◌+◌, ◌-◌, ◌*◌, ◌/◌, ◌%◌, ◌<◌, ◌≤◌, Bool, true, false, cond, not, ◌&&◌, ◌||◌, eqb, ltb, leb, List, [], ◌∷◌, ◌++◌, length, get_or, set, sym, refl, ap, ◌∙◌, subst, ap₂, arith, ltb-true, le-ltb, lt-ltb, eq-eqb, ne_eqb, eqb-true, le-leb}
+use Rattle.std.proofs.Common.{◌≡◌, ℕ, suc, ◌+◌, ◌*◌, ◌/◌, ◌%◌, ◌<◌, ◌≤◌, Bool, true, false, cond, ◌&&◌, eqb, ltb, leb, List, [], ◌∷◌, ◌++◌, length, get_or, set, sym, refl, ap, ◌∙◌, subst, ap₂, arith, ltb-true, lt-ltb, eq-eqb, ne_eqb, le-leb}
 use mathlib.Core.Path.{fun_ext}
 use lib.Arith.{digits_lt, digits_div, digits_mod}
-use borrow.Author.Tests.{eqb-false}
 use Rattle.std.proofs.lemmas.List.{get_or-set_same, get_or-set_other}
-use Rattle.std.proofs.lemmas.Bool.{cond-true, cond-false}
+use Rattle.std.proofs.lemmas.Bool.{cond-true}
 use Rattle.message.specs.declared.Message.{Message}
 use Rattle.message.specs.Lists.{with_list}
 use Rattle.directory.specs.Directories.{Holders}
@@ -17,9 +16,9 @@ use Rattle.protocol.specs.Sends.{sent}
 use Rattle.protocol.specs.HomeSteps.{blank}
 use Rattle.protocol.specs.Places.{invalid}
 use Rattle.machine.specs.Site as model
-use Rattle.machine.specs.Machine.{same, Home}
+use Rattle.machine.specs.Machine.{same}
 use Rattle.machine.specs.Site.{Mail, Want, changed, put_place, empty}
-use Rattle.machine.proofs.Counts.{Same, eq, ne, view, same_refl, same_no}
+use Rattle.machine.proofs.Counts.{Same, eq, ne, view, same_refl}
 use Rattle.coherence.proofs.Abstraction.{each, lanes, homes, home_of, places, place_of, wants_of, want_of}
 
 -- the code's test of a number and the machine's

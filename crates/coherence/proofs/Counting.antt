@@ -1,5 +1,5 @@
 -- Replacements, waiting terminals and accepted steps are counted alike in the site and in the machine.
-use Rattle.std.proofs.Common.{◌≡◌, ℕ, zero, suc, ◌+◌, Bool, true, false, cond, eqb, List, [], ◌∷◌, Some, None, Option, refl, ap, ◌∙◌, ap₂, arith, eqb-true}
+use Rattle.std.proofs.Common.{◌≡◌, ℕ, zero, suc, ◌+◌, Bool, true, false, cond, eqb, List, [], ◌∷◌, Some, Option, refl, ap, ◌∙◌, ap₂, arith, eqb-true}
 use mathlib.Core.Path.{fun_ext}
 use Rattle.message.specs.declared.Message.{Message}
 use Rattle.message.specs.declared.kinds.Kind.{Kind}

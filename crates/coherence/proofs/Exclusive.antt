@@ -1,5 +1,5 @@
 -- Exclusive: what the machine owns in one place it copies in no place of another terminal.
-use Rattle.std.proofs.Common.{◌≡◌, ℕ, ◌<◌, Bool, true, false, cond, eqb, sym, refl, ap, ◌∙◌, arith, eqb-true}
+use Rattle.std.proofs.Common.{◌≡◌, ℕ, Bool, true, false, cond, eqb, sym, refl, ap, ◌∙◌, arith, eqb-true}
 use Rattle.protocol.specs.declared.PlaceState.{PlaceState}
 use Rattle.protocol.specs.declared.PlaceState.TheVariants.{Invalid, ReadOnly as InRead, ReadWrite as InWrite}
 use Rattle.protocol.specs.declared.Place.{Place}
@@ -9,7 +9,7 @@ use Rattle.protocol.specs.Coherence as law
 use Rattle.machine.specs.Machine.{no_copy, readable, writable, same}
 use Rattle.machine.specs.Site.{owned, copy_of}
 use Rattle.machine.proofs.Coherence.{exclusive_at}
-use Rattle.coherence.proofs.Abstraction.{abs, sizes, place_by, place_of}
+use Rattle.coherence.proofs.Abstraction.{abs, sizes, place_by}
 use Rattle.coherence.proofs.Changes.{places_at}
 use Rattle.coherence.proofs.Runs.{Stands}
 

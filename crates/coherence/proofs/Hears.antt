@@ -1,8 +1,8 @@
 -- What a terminal does with a message is what it does in the machine.
-use Rattle.std.proofs.Common.{◌≡◌, ℕ, ◌+◌, Bool, true, false, cond, ◌||◌, eqb, leb, List, [], ◌∷◌, ◌++◌, length, Some, None, Option, sym, refl, ap, subst, eqb-true}
-use mathlib.Core.Option.{Option as Maybe, none, some}
+use Rattle.std.proofs.Common.{◌≡◌, ℕ, ◌+◌, Bool, true, false, cond, eqb, leb, List, [], ◌∷◌, ◌++◌, length, Some, None, Option, sym, refl, ap, subst, eqb-true}
+use mathlib.Core.Option.{Option as Maybe, none}
 use Rattle.message.specs.declared.Message.{Message}
-use Rattle.message.specs.declared.codes.Code.TheVariants.{Accepted, Full, OutOfTurn}
+use Rattle.protocol.specs.declared.CallCode.TheVariants.{Accepted, Full, OutOfTurn}
 use Rattle.message.specs.declared.kinds.Kind.{Kind}
 use Rattle.message.specs.declared.kinds.Kind.TheVariants.{ReadRequest, WriteRequest, Replacement, Update, Acknowledgement, ReadData, WriteData, Invalidate, Busy}
 use Rattle.message.specs.Messages.{message_of}
@@ -15,15 +15,15 @@ use Rattle.protocol.specs.declared.Wait.TheVariants.{Nothing, ToRead, ToWrite}
 use Rattle.protocol.specs.Sends as sending
 use Rattle.protocol.specs.Sends.{has_room_for}
 use Rattle.protocol.specs.Places.{invalid, waits_to_read, waits_to_write}
-use Rattle.protocol.specs.Seats.{Turn, refuses, moves}
+use Rattle.protocol.specs.Seats.{refuses, moves}
 use Rattle.protocol.specs.TerminalRules.{heard, heard_as}
 use Rattle.machine.specs.Site as model
 use Rattle.machine.specs.Machine as machine
 use Rattle.machine.specs.Machine.{reading, writing, no_copy, readable, writable, Wait as Waits, still, waits, Msg, UPDATE, ACKC, INV, BUSY, DATA, same}
 use Rattle.machine.specs.Site.{Mail, mail, empty, shared, owned, Want, rests, wants, copy_of, wait_of, clear}
-use Rattle.machine.specs.TerminalRules.{Took, receive, on_data, on_inv, on_busy}
-use Rattle.coherence.proofs.Abstraction.{lanes, up_of, place_by, place_of, want_of, down_msg}
-use Rattle.coherence.proofs.Moves.{Local, loc, Move, stays, goes, a_takes, a_hear}
+use Rattle.machine.specs.TerminalRules.{Took, on_data, on_inv, on_busy}
+use Rattle.coherence.proofs.Abstraction.{up_of, place_by, place_of, want_of, down_msg}
+use Rattle.coherence.proofs.Moves.{Local, loc, stays, goes, a_takes, a_hear}
 use Rattle.coherence.proofs.Turns.{Meets, refused, place, seat, append_nil, if, lane, here, keeps, sends, room}
 
 -- what the terminal waits for stays, unless it was told of it

@@ -2,14 +2,15 @@
 use Rattle.std.proofs.Common.{◌≡◌, ℕ, ◌-◌, ◌<◌, ◌≤◌, Bool, true, false, cond, not, ◌&&◌, ◌||◌, eqb, ltb, ◌⊎◌, List, Some, None, Option, sym, refl, ap, ◌∙◌, subst, ap₂, inl, inr, arith, ltb-true, lt-ltb, eq-eqb, ne_eqb, eqb-true}
 use mathlib.Core.Option.{Option as Maybe, none, some}
 use Rattle.message.specs.declared.Message.{Message}
-use Rattle.message.specs.declared.codes.Code.TheVariants.{Full, OutOfTurn, Accepted, AtLimit, NoSuchTerminal}
+use Rattle.message.specs.declared.codes.Code.TheVariants.{Accepted, AtLimit}
+use Rattle.protocol.specs.declared.CallCode.TheVariants.{Full, OutOfTurn}
 use Rattle.message.specs.declared.kinds.Kind.{Kind}
 use Rattle.message.specs.declared.kinds.Kind.TheVariants.{ReadRequest, WriteRequest, Replacement, Update, Acknowledgement, ReadData, WriteData, Invalidate, Busy}
 use Rattle.message.specs.Codes.{accepted}
 use Rattle.message.specs.Messages.{message_of}
 use Rattle.directory.specs.Sets.{tally}
-use Rattle.directory.specs.Directories.{Holders, View, count as holder-count}
-use Rattle.directory.specs.Changes.{joined, emptied, add_code, added}
+use Rattle.directory.specs.Directories.{Holders, View}
+use Rattle.directory.specs.Changes.{joined, emptied, add_code}
 use Rattle.directory_client.specs.Clients.{alone}
 use Rattle.network.specs.Traffic.{Traffic}
 use Rattle.protocol.specs.declared.Entry.{Entry}

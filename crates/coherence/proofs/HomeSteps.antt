@@ -1,17 +1,16 @@
 -- A home step is that of the machine.
-use Rattle.std.proofs.Common.{◌≡◌, ℕ, ◌<◌, ◌≤◌, Bool, true, false, cond, ltb, ◌⊎◌, List, [], ◌∷◌, length, set, Some, None, Option, sym, refl, ap, ◌∙◌, subst, inl, inr, arith, ltb-true, lt-ltb}
+use Rattle.std.proofs.Common.{◌≡◌, ℕ, ◌<◌, Bool, true, false, cond, ltb, List, [], ◌∷◌, Some, None, Option, sym, refl, ap, ◌∙◌, subst, inl, inr, arith, ltb-true, lt-ltb}
 use mathlib.Core.Option.{Option as Maybe, none, some}
-use Rattle.std.proofs.lemmas.Bool.{cond-true}
 use Rattle.std.specs.List.{slice_get}
 use Rattle.message.specs.declared.Message.{Message}
-use Rattle.message.specs.declared.codes.Code.TheVariants.{Accepted, Full, OutOfTurn, Empty, NoSuchTerminal, Unfit}
+use Rattle.protocol.specs.declared.CallCode.TheVariants.{OutOfTurn, NoSuchTerminal}
 use Rattle.message.specs.declared.kinds.Kind.{Kind}
 use Rattle.message.specs.Kinds.{kind_of}
 use Rattle.network.specs.Traffic.{oldest}
-use Rattle.protocol.specs.Scenes.{Scene, Ruling, refuses, accepts}
+use Rattle.protocol.specs.Scenes.{Ruling, refuses, accepts}
 use Rattle.protocol.specs.HomeRules.{ruled}
-use Rattle.protocol.specs.HomeSteps.{Given, gives, unchanged, entry_at, scene_at, answered, settled, message_taken, head_taken, parts_serve, home_step}
-use Rattle.protocol.specs.Sites.{Site, row_fits}
+use Rattle.protocol.specs.HomeSteps.{unchanged, entry_at, scene_at, answered, settled, head_taken}
+use Rattle.protocol.specs.Sites.{Site}
 use Rattle.protocol.specs.Calls.{with_home, site_home_step}
 use Rattle.machine.specs.Site as model
 use Rattle.machine.specs.Turns as model_turns
@@ -23,10 +22,10 @@ use Rattle.machine.specs.HomeRules.{Act}
 use Rattle.machine.specs.Site.{Mail, Want, changed}
 use Rattle.machine.specs.Turns.{home_acts}
 use Rattle.machine.specs.Invariant.{Owed, Invariant}
-use Rattle.coherence.proofs.Abstraction.{abs, sizes, each, lanes, homes, up_of, phase_of, up_msg}
+use Rattle.coherence.proofs.Abstraction.{abs, sizes, each, lanes, up_of, phase_of, up_msg}
 use Rattle.coherence.proofs.Changes.{homes_set, lanes_dropped}
 use Rattle.coherence.proofs.HomeRules.{Does, does}
-use Rattle.coherence.proofs.Simulates.{Simulates, Sized, Served, served, refused}
+use Rattle.coherence.proofs.Simulates.{Simulates, Sized, served}
 
 site_path : {h k : ℕ → Home ℕ} {f : ℕ → ℕ → model.Place ℕ} {w : ℕ → Want} {u v d e : ℕ → List (Mail ℕ)} → h ≡ k → u ≡ v → d ≡ e
     → ◌≡◌ {A = model.Site ℕ} (record { homes = h; place = f; wait = w; up = u; down = d }) (record { homes = k; place = f; wait = w; up = v; down = e })

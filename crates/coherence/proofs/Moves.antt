@@ -1,11 +1,11 @@
 -- What a terminal does in the machine, told of its own place, wait and up lane alone.
-use Rattle.std.proofs.Common.{◌≡◌, ℕ, ◌+◌, ◌%◌, Bool, true, false, cond, ◌||◌, eqb, leb, List, [], ◌∷◌, ◌++◌, length, sym, refl, ap}
+use Rattle.std.proofs.Common.{◌≡◌, ℕ, ◌+◌, ◌%◌, Bool, true, false, cond, eqb, leb, List, [], ◌∷◌, ◌++◌, length, sym, refl, ap}
 use mathlib.Core.Option.{Option, none, some}
 use Rattle.machine.specs.Machine.{Access, reading, writing, Copy, no_copy, readable, writable, Msg, REQ, Home}
 use Rattle.machine.specs.Site.{Mail, mail, mails, Place, empty, owned, Want, rests, wants, Sizes, Site, changed, put_place, copy_of, wait_of, place_of, want_of}
 use Rattle.machine.specs.TerminalRules.{Took, receive, lands}
 use Rattle.machine.specs.Turns.{Out, out, room_up, drop_down, after_terminal, terminal_takes}
-use Rattle.machine.specs.Calls.{evict, cleared, after_asking, miss, read_at, write_at, after_writing, after_releasing, release_at}
+use Rattle.machine.specs.Calls.{evict, cleared, miss, read_at, write_at, after_releasing, release_at}
 use Rattle.coherence.proofs.Changes.{upd_still, put_still}
 
 pub record Local : Type 0 where

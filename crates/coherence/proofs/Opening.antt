@@ -1,11 +1,11 @@
 -- A site that open accepts is a newly opened machine.
-use Rattle.std.proofs.Common.{◌≡◌, ℕ, zero, suc, ◌+◌, ◌*◌, ◌<◌, ◌≤◌, Bool, true, false, cond, not, ◌&&◌, eqb, ltb, leb, List, [], ◌∷◌, length, get_or, set, sym, refl, ap, ◌∙◌, subst, arith, length-set, ltb-true, lt-ltb, eqb-true, leb-true}
+use Rattle.std.proofs.Common.{◌≡◌, ℕ, zero, suc, ◌+◌, ◌*◌, ◌<◌, ◌≤◌, Bool, true, false, cond, ◌&&◌, eqb, ltb, leb, List, [], ◌∷◌, length, get_or, set, sym, refl, ap, ◌∙◌, subst, arith, length-set, ltb-true, lt-ltb, eqb-true, leb-true}
 use mathlib.Core.Path.{fun_ext}
 use lib.Arith.{digits_lt}
 use Rattle.std.proofs.lemmas.List.{get_or-set_same, get_or-set_other}
-use Rattle.std.proofs.lemmas.Bool.{and_parts, cond-true}
+use Rattle.std.proofs.lemmas.Bool.{and_parts}
 use Rattle.message.specs.declared.Message.{Message}
-use Rattle.message.specs.declared.codes.Code.TheVariants.{Accepted, Unfit}
+use Rattle.protocol.specs.declared.CallCode.TheVariants.{Accepted, Unfit}
 use Rattle.directory.specs.Directories.{size_fits}
 use Rattle.network.specs.Traffic.{Traffic}
 use Rattle.protocol.specs.declared.Entry.{Entry}
@@ -15,7 +15,7 @@ use Rattle.protocol.specs.declared.Wait.{Wait}
 use Rattle.protocol.specs.declared.Wait.TheVariants.{Nothing}
 use Rattle.protocol.specs.Sends.{all_below}
 use Rattle.protocol.specs.HomeRules.{entry_of}
-use Rattle.protocol.specs.HomeSteps.{Given, gives, unchanged, blank, parts_serve}
+use Rattle.protocol.specs.HomeSteps.{gives, unchanged, blank, parts_serve}
 use Rattle.protocol.specs.Places.{invalid}
 use Rattle.protocol.specs.Sites.{Site, row_fits}
 use Rattle.protocol.specs.declared.Sizes.{Sizes}
@@ -202,4 +202,4 @@ opening_stands s z values K = pick (may_open s z values) refl
     pick : (b : Bool) → may_open s z values ≡ b → (cond b (gives Accepted 0 (opened s z values)) (unchanged Unfit s)).code ≡ Accepted
         → Stands (cond b (gives Accepted 0 (opened s z values)) (unchanged Unfit s)).after (opening_value values)
     pick true e f = stands s z values K (openable s z values e)
-    pick false e f = absurd (let h = ap Rattle.message.specs.Codes.number f in omega (arith, h))
+    pick false e f = absurd (let h = ap Rattle.protocol.specs.Codes.number f in omega (arith, h))

@@ -1,22 +1,22 @@
 -- Along every list of calls the machine's invariant holds of the machine's view.
-use Rattle.std.proofs.Common.{◌≡◌, ℕ, ◌*◌, Bool, true, false, cond, ◌&&◌, eqb, ltb, leb, List, [], ◌∷◌, length, Some, None, Option, sym, refl, ap, ◌∙◌, subst, length-set}
+use Rattle.std.proofs.Common.{◌≡◌, ℕ, ◌*◌, Bool, true, false, cond, ◌&&◌, ltb, leb, length, Some, None, Option, sym, refl, ap, ◌∙◌, subst, length-set}
 use mathlib.Core.Path.{fun_ext}
 use Rattle.message.specs.declared.Message.{Message}
-use Rattle.message.specs.declared.codes.Code.{Code}
-use Rattle.message.specs.declared.codes.Code.TheVariants.{Empty, OutOfTurn, NoSuchTerminal, NoSuchRecord, Unfit}
-use Rattle.message.specs.Codes.{number, accepted}
+use Rattle.protocol.specs.declared.CallCode.{CallCode}
+use Rattle.protocol.specs.declared.CallCode.TheVariants.{OutOfTurn, NoSuchTerminal, Unfit}
+use Rattle.protocol.specs.Codes.{number, accepted}
 use Rattle.message.specs.Kinds.{kind_of}
 use Rattle.network.specs.Traffic.{oldest}
 use Rattle.protocol.specs.declared.Call.{Call}
 use Rattle.protocol.specs.declared.Call.TheVariants.{Read, Write, Release, HomeStep, TerminalStep}
 use Rattle.protocol.specs.Scenes as ruling
 use Rattle.protocol.specs.Scenes.{Ruling}
-use Rattle.protocol.specs.HomeSteps.{Given, unchanged, takes_off, scene_at, answered, settled, head_taken, parts_serve, home_step, up_taken}
+use Rattle.protocol.specs.HomeSteps.{Given, unchanged, takes_off, scene_at, answered, settled, head_taken, parts_serve, up_taken}
 use Rattle.protocol.specs.Seats.{Turn, refuses, moves}
 use Rattle.protocol.specs.TerminalRules.{read_turn, write_turn, release_turn, heard_as}
 use Rattle.protocol.specs.Sites.{Site, spot, place_for, seat_at, row_fits, fits}
 use Rattle.protocol.specs.Calls.{at_terminal, of_record, turned, stepped, message_heard, down_taken, with_home, site_home_step, step}
-use Rattle.protocol.specs.Runs.{Answer, run, effect, with_effect}
+use Rattle.protocol.specs.Runs.{Answer, effect, with_effect}
 use Rattle.machine.specs.Site as model
 use Rattle.machine.specs.Calls as model_calls
 use Rattle.machine.specs.Machine.{same}
@@ -131,7 +131,7 @@ step_simulates s last I J (HomeStep t) = home_step_simulates s last I J t
 step_simulates s last I J (TerminalStep t) = terminal_step_simulates s last I J t
 
 -- What a call writes is what the machine notes.
-effect_is : (c : Call) (code : Code) (v : ℕ) (last : ℕ → ℕ) → with_effect last (effect c (code, v)) ≡ model_calls.effect (call_of c) (number code) last
+effect_is : (c : Call) (code : CallCode) (v : ℕ) (last : ℕ → ℕ) → with_effect last (effect c (code, v)) ≡ model_calls.effect (call_of c) (number code) last
 effect_is (Read t r) code v last = refl
 effect_is (Write t r w) code v last = pick (accepted code)
   where

@@ -1,5 +1,5 @@
 -- What the home sends, and the holders that it leaves, in the rules and in the machine.
-use Rattle.std.proofs.Common.{◌≡◌, ℕ, zero, suc, ◌+◌, ◌<◌, ◌≤◌, Bool, true, false, cond, not, ◌&&◌, ◌||◌, eqb, ltb, ◌⊎◌, List, [], ◌∷◌, ◌++◌, length, sym, refl, ap, ◌∙◌, subst, ap₂, inl, inr, ⊎_elim, arith, le-ltb, lt-ltb, eq-eqb, ne_eqb}
+use Rattle.std.proofs.Common.{◌≡◌, ℕ, zero, suc, ◌<◌, ◌≤◌, Bool, true, false, cond, not, ◌&&◌, ◌||◌, ltb, List, [], ◌∷◌, ◌++◌, length, sym, refl, ap, ◌∙◌, ap₂, ⊎_elim, arith, le-ltb, lt-ltb, eq-eqb, ne_eqb}
 use mathlib.Core.Path.{fun_ext}
 use Rattle.std.proofs.lemmas.Bool.{cond-false, cases_lt}
 use Rattle.message.specs.declared.Message.{Message}
@@ -10,9 +10,9 @@ use Rattle.network.specs.Traffic.{Traffic}
 use Rattle.protocol.specs.Sends as law
 use Rattle.protocol.specs.Sends.{has_room, all_below, each_has_room, sent_to_each}
 use Rattle.machine.specs.Machine.{same, besides, join, nobody}
-use Rattle.machine.specs.Site.{Mail, mail}
+use Rattle.machine.specs.Site.{Mail}
 use Rattle.machine.specs.Turns.{room}
-use Rattle.machine.proofs.Counts.{Same, eq, ne, view, same_refl, same_no}
+use Rattle.machine.proofs.Counts.{Same, eq, ne, view, same_no}
 use Rattle.coherence.proofs.Abstraction.{within, each, lanes}
 use Rattle.coherence.proofs.Changes.{flip, each_length, each_append, lanes_sent}
 use Rattle.coherence.proofs.Holders.{other_is}

@@ -1,13 +1,13 @@
 -- What it means that a call on a site is the machine's call on the machine's view of it.
-use Rattle.std.proofs.Common.{◌≡◌, ℕ, ◌*◌, ◌<◌, ◌≤◌, Bool, true, false, cond, ◌&&◌, ltb, leb, List, length, sym, refl, subst, ltb-true, leb-true}
+use Rattle.std.proofs.Common.{◌≡◌, ℕ, ◌*◌, ◌≤◌, true, ◌&&◌, leb, length, refl, leb-true}
 use mathlib.Core.Option.{Option as Maybe, none, some}
 use Rattle.std.proofs.lemmas.Bool.{and_parts}
-use Rattle.message.specs.declared.codes.Code.{Code}
-use Rattle.message.specs.Codes.{number}
+use Rattle.protocol.specs.declared.CallCode.{CallCode}
+use Rattle.protocol.specs.Codes.{number}
 use Rattle.protocol.specs.HomeSteps.{Given, unchanged, parts_serve}
-use Rattle.protocol.specs.Sites.{Site, row_fits, fits}
+use Rattle.protocol.specs.Sites.{Site, row_fits}
 use Rattle.machine.specs.Turns as model_turns
-use Rattle.coherence.proofs.Abstraction.{abs, sizes}
+use Rattle.coherence.proofs.Abstraction.{abs}
 
 -- The value of an answer: 0 where the machine gives none.
 abbrev pub value_of : Maybe ℕ → ℕ
@@ -20,7 +20,7 @@ pub record Simulates (o : Given Site) (a : model_turns.Out ℕ) : Type 0 where
   pub code_is : number o.code ≡ a.code
   pub value_is : o.value ≡ value_of a.value
 
-pub refused : (s : Site) (c : Code) → Simulates (unchanged c s) (model_turns.out (abs s) (number c) none)
+pub refused : (s : Site) (c : CallCode) → Simulates (unchanged c s) (model_turns.out (abs s) (number c) none)
 refused s c = record { site_is = refl; code_is = refl; value_is = refl }
 
 -- What is true of the sizes and tables of every site that is open.

@@ -1,12 +1,11 @@
 -- The calls at a terminal are those of the machine.
-use Rattle.std.proofs.Common.{◌≡◌, ℕ, ◌%◌, ◌<◌, ◌≤◌, Bool, true, false, cond, ◌&&◌, eqb, ltb, List, [], ◌∷◌, length, set, sym, refl, ap, ◌∙◌, subst, mod-lt, arith, ltb-true, lt-ltb}
-use mathlib.Core.Option.{Option as Maybe, none, some}
+use Rattle.std.proofs.Common.{◌≡◌, ℕ, ◌%◌, ◌<◌, ◌≤◌, Bool, true, false, cond, ◌&&◌, eqb, ltb, List, [], ◌∷◌, set, sym, refl, ap, ◌∙◌, subst, mod-lt, arith, ltb-true, lt-ltb}
+use mathlib.Core.Option.{none}
 use Rattle.std.specs.List.{slice_get}
 use Rattle.message.specs.declared.Message.{Message}
-use Rattle.message.specs.declared.codes.Code.TheVariants.{OutOfTurn, NoSuchTerminal, NoSuchRecord}
-use Rattle.message.specs.Codes.{number}
+use Rattle.protocol.specs.declared.CallCode.TheVariants.{OutOfTurn, NoSuchTerminal, NoSuchRecord}
+use Rattle.protocol.specs.Codes.{number}
 use Rattle.message.specs.Kinds.{kind_of}
-use Rattle.network.specs.Traffic.{oldest, after_drop}
 use Rattle.protocol.specs.declared.Place.{Place}
 use Rattle.protocol.specs.declared.PlaceState.{PlaceState}
 use Rattle.protocol.specs.declared.PlaceState.TheVariants.{Invalid, ReadOnly as InRead, ReadWrite as InWrite}
@@ -18,14 +17,13 @@ use Rattle.protocol.specs.Calls.{at_terminal, of_record, turned, stepped, messag
 use Rattle.machine.specs.Turns as model_turns
 use Rattle.machine.specs.Site as model
 use Rattle.machine.specs.Calls as model_calls
-use Rattle.machine.specs.Machine.{Msg}
 use Rattle.machine.specs.Site.{Mail, mail, changed, put_place, copy_of, wait_of}
 use Rattle.machine.specs.TerminalRules.{lands, receive}
 use Rattle.machine.specs.Turns.{terminal_takes, drop_down}
 use Rattle.machine.specs.Invariant.{InItsPlace, Invariant}
-use Rattle.coherence.proofs.Abstraction.{abs, sizes, each, lanes, down_of, place_by, place_of, want_of, places, down_msg}
+use Rattle.coherence.proofs.Abstraction.{abs, sizes, each, down_of, place_by, place_of, places, down_msg}
 use Rattle.coherence.proofs.Changes.{places_set, places_at, wants_set, lanes_dropped}
-use Rattle.coherence.proofs.Simulates.{Simulates, Sized, served, row_is_long, refused, value_of}
+use Rattle.coherence.proofs.Simulates.{Simulates, Sized, served, row_is_long, refused}
 use Rattle.coherence.proofs.Moves.{Local, loc, Move, stays, goes, out_of, site_path, a_read, a_write, a_release, a_hear, read_is, write_is, release_is, out_down, hear_is}
 use Rattle.coherence.proofs.Turns as turns
 use Rattle.coherence.proofs.Turns.{Meets, Sendable}

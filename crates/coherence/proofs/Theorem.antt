@@ -1,10 +1,10 @@
 -- The law of coherence: what the machine's invariant says of the machine's view, told of the site.
-use Rattle.std.proofs.Common.{◌≡◌, ℕ, ◌+◌, ◌*◌, ◌<◌, ◌≤◌, List, [], ◌∷◌, sym, refl, ap, ◌∙◌, subst, le_trans, arith, eqb-true}
+use Rattle.std.proofs.Common.{◌≡◌, ℕ, ◌+◌, ◌*◌, ◌≤◌, List, [], ◌∷◌, sym, refl, ap, ◌∙◌, subst, le_trans, arith, eqb-true}
 use Rattle.message.specs.declared.Message.{Message}
-use Rattle.message.specs.declared.codes.Code.{Code}
-use Rattle.message.specs.declared.codes.Code.TheVariants.{Accepted, Full}
-use Rattle.message.proofs.Accepts.{accepted_only}
-use Rattle.message.specs.Codes.{number}
+use Rattle.protocol.specs.declared.CallCode.{CallCode}
+use Rattle.protocol.specs.declared.CallCode.TheVariants.{Accepted, Full}
+use Rattle.protocol.proofs.Accepts.{accepted_only}
+use Rattle.protocol.specs.Codes.{number}
 use Rattle.protocol.specs.declared.Call.{Call}
 use Rattle.protocol.specs.declared.Call.TheVariants.{Read, Write, Release, HomeStep, TerminalStep}
 use Rattle.protocol.specs.declared.HomeState.{HomeState}
@@ -78,7 +78,7 @@ module _ (s : Site) (last : ℕ → ℕ) (K : Stands s last) where
       (subst (λ (x : ℕ). told.accepted (sizes s) S (steps_of xs) ≤ 2 * s.home.terminals * law.waiting_terminals s + x) (replacements_alike s)
       (subst (λ (x : ℕ). told.accepted (sizes s) S (steps_of xs) ≤ 2 * s.home.terminals * x + told.replacements (sizes s) S) (waiters_alike s) most))
 
-  accepted_number : (c : Code) → number c ≡ 0 → c ≡ Accepted
+  accepted_number : (c : CallCode) → number c ≡ 0 → c ≡ Accepted
   accepted_number c e = accepted_only c (rw e refl)
 
   stuck : law.NoStepLeft s → told.Stuck (sizes s) S

@@ -1,11 +1,11 @@
 -- A terminal's read, write and release are those of the machine.
-use Rattle.std.proofs.Common.{◌≡◌, ℕ, ◌+◌, ◌≤◌, Bool, true, false, cond, not, ◌&&◌, eqb, leb, List, [], ◌∷◌, ◌++◌, length, sym, refl, ap, ◌∙◌, subst, arith, eqb-true, le-leb}
+use Rattle.std.proofs.Common.{◌≡◌, ℕ, ◌+◌, ◌≤◌, Bool, true, false, cond, eqb, leb, List, [], ◌∷◌, ◌++◌, length, sym, refl, ap, ◌∙◌, arith, eqb-true, le-leb}
 use mathlib.Core.Option.{Option as Maybe, none, some}
 use Rattle.message.specs.declared.Message.{Message}
-use Rattle.message.specs.declared.codes.Code.{Code}
-use Rattle.message.specs.declared.codes.Code.TheVariants.{Accepted, Requested, Waiting, Full, NoCopy}
+use Rattle.protocol.specs.declared.CallCode.{CallCode}
+use Rattle.protocol.specs.declared.CallCode.TheVariants.{Accepted, Requested, Waiting, Full, NoCopy}
 use Rattle.message.specs.declared.kinds.Kind.TheVariants.{ReadRequest, WriteRequest, Replacement}
-use Rattle.message.specs.Codes.{number}
+use Rattle.protocol.specs.Codes.{number}
 use Rattle.message.specs.Messages.{message_of}
 use Rattle.network.specs.Traffic.{Traffic}
 use Rattle.protocol.specs.declared.Place.{Place}
@@ -20,7 +20,7 @@ use Rattle.protocol.specs.Places as at_place
 use Rattle.protocol.specs.Seats.{Seat, Turn, refuses, moves}
 use Rattle.protocol.specs.TerminalRules.{missed, requested, read_turn, write_turn, release_turn}
 use Rattle.machine.specs.Site as model
-use Rattle.machine.specs.Machine.{Access, reading, writing, Copy, no_copy, readable, writable, Msg, REQ, REPM, same}
+use Rattle.machine.specs.Machine.{Access, reading, writing, no_copy, readable, writable, REQ, REPM, same}
 use Rattle.machine.specs.Site.{Mail, mail, empty, shared, owned, Want, rests, wants, changed, copy_of}
 use Rattle.machine.specs.Calls.{cleared}
 use Rattle.coherence.proofs.Abstraction.{lanes, up_of, place_by, place_of, want_of}
@@ -46,7 +46,7 @@ Met up t (moves c value place wait waiting) (goes k v L) = Left up t (number c) 
 pub record Meets (up : ℕ → List Message) (t : ℕ) (turn : Turn) (move : Move) : Type 0 where
   pub is : Met up t turn move
 
-pub refused : (up : ℕ → List Message) (t : ℕ) (c : Code) → Meets up t (refuses c) (stays (number c))
+pub refused : (up : ℕ → List Message) (t : ℕ) (c : CallCode) → Meets up t (refuses c) (stays (number c))
 refused up t c = record { is = refl }
 
 abbrev pub place : PlaceState → ℕ → ℕ → Place
@@ -82,11 +82,11 @@ module _ (up : Traffic) (t : ℕ) where
   here st x v w = loc (place_by st x v) (want_of w) lane
 
   -- nothing is sent
-  pub keeps : (c : Code) (v : ℕ) (y : Maybe ℕ) → v ≡ value_of y → (pl : Place) (w : Wait) (P : model.Place ℕ) (W : Want) → place_of pl ≡ P → want_of w ≡ W → Meets f t (moves c v pl w f) (goes (number c) y (loc P W lane))
+  pub keeps : (c : CallCode) (v : ℕ) (y : Maybe ℕ) → v ≡ value_of y → (pl : Place) (w : Wait) (P : model.Place ℕ) (W : Want) → place_of pl ≡ P → want_of w ≡ W → Meets f t (moves c v pl w f) (goes (number c) y (loc P W lane))
   keeps c v y g pl w P W e h = record { is = record { code_is = refl; value_is = g; place_is = e; want_is = h; lanes_are = sym (upd_still (lanes up_of f) t) } }
 
   -- one message goes up
-  pub sends : (c : Code) (pl : Place) (w : Wait) (m : Message) (P : model.Place ℕ) (W : Want) (x : Mail ℕ) → place_of pl ≡ P → want_of w ≡ W → up_of m ≡ x
+  pub sends : (c : CallCode) (pl : Place) (w : Wait) (m : Message) (P : model.Place ℕ) (W : Want) (x : Mail ℕ) → place_of pl ≡ P → want_of w ≡ W → up_of m ≡ x
       → Meets f t (moves c 0 pl w (sending.sent f t m)) (goes (number c) none (loc P W (lane ++ (x ∷ []))))
   sends c pl w m P W x e h g =
       record { is = record { code_is = refl; value_is = refl; place_is = e; want_is = h; lanes_are = lanes_sent up_of f t m ∙ ap (λ (y : Mail ℕ). changed (lanes up_of f) t (lane ++ (y ∷ []))) g } }

@@ -1,1 +1,3 @@
+pub mod Digits
 pub mod Masks
+pub mod Steps

@@ -6,7 +6,8 @@ use Rattle.std.proofs.lemmas.Bool.{cases_lt, both_ways}
 use Rattle.directory.specs.Sets.{least}
 use Rattle.directory.proofs.Finding.{least_none, least_some}
 use Rattle.full_map.specs.Words.{bit}
-use Rattle.full_map.specs.Digits.{bit_none, bit_above, masked, trailing_set, trailing_clear, bit_shl_low, bit_shl_high, bit_shr}
+use Rattle.full_map.specs.Laws.{bit_none, bit_above}
+use Rattle.full_map.proofs.Digits.{masked, trailing_set, trailing_clear, bit_shl_low, bit_shl_high, bit_shr}
 
 abbrev mask : ℕ → ℕ
 mask t = (18446744073709551615 * 2 ^ t) % 18446744073709551616

@@ -1,4 +1,3 @@
 pub mod Words
 pub mod Maps
-pub mod Steps
-pub mod Digits
+pub mod Laws

@@ -1,6 +1,6 @@
 // The calls of a full map, by shifts and masks.
 ghost use Rattle.full_map.specs.Maps.{map_view, Makes};
-ghost use Rattle.full_map.specs.Steps.{served};
+ghost use Rattle.full_map.specs.Laws.{served};
 ghost use Rattle.std.proofs.Common.{arith};
 
 use crate::FullMap;

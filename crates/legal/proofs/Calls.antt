@@ -3,8 +3,8 @@
 use Rattle.std.proofs.Common.{ℕ, Bool, ltb, Some, None, Option}
 use Rattle.std.proofs.lemmas.Bool.{cond_both}
 use Rattle.message.specs.declared.Message.{Message}
-use Rattle.message.specs.declared.codes.Code.{Code}
-use Rattle.message.specs.declared.codes.Code.TheVariants.{OutOfTurn, NoSuchTerminal, NoSuchRecord, Unfit}
+use Rattle.protocol.specs.declared.CallCode.{CallCode}
+use Rattle.protocol.specs.declared.CallCode.TheVariants.{OutOfTurn, NoSuchTerminal, NoSuchRecord, Unfit}
 use Rattle.message.specs.Checks.{given}
 use Rattle.message.specs.Kinds.{kind_of}
 use Rattle.network.specs.Traffic.{oldest}
@@ -23,7 +23,7 @@ pub record LeavesLegalSite (given : Given Site) : Type 0 where
 
 module _ (site : Site) (before : LegalHome site.home) where
   -- what follows a check, and what follows the checks of a terminal
-  behind : (test : Bool) (code : Code) (follows : Given Site) → LeavesLegalSite follows → LeavesLegalSite (given test (unchanged code site) follows)
+  behind : (test : Bool) (code : CallCode) (follows : Given Site) → LeavesLegalSite follows → LeavesLegalSite (given test (unchanged code site) follows)
   behind test code follows legal = cond_both test follows (unchanged code site) LeavesLegalSite (λ _. legal) (λ _. record { home = before })
 
   at_terminal_legal : (t : ℕ) (follows : Given Site) → LeavesLegalSite follows → LeavesLegalSite (at_terminal site t follows)

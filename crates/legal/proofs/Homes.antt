@@ -3,7 +3,7 @@
 use Rattle.std.proofs.Common.{ℕ, ◌<◌, ◌≤◌, ltb, Some, None, Option, arith}
 use Rattle.std.proofs.lemmas.Bool.{cond_both, ltb-true}
 use Rattle.message.specs.declared.Message.{Message}
-use Rattle.message.specs.declared.codes.Code.TheVariants.{OutOfTurn}
+use Rattle.protocol.specs.declared.CallCode.TheVariants.{OutOfTurn}
 use Rattle.message.specs.Kinds.{kind_of}
 use Rattle.network.specs.Traffic.{oldest}
 use Rattle.protocol.specs.Scenes.{Ruling, refuses, accepts}

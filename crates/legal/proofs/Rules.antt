@@ -3,8 +3,8 @@
 use Rattle.std.proofs.Common.{◌≡◌, ℕ, ◌<◌, ◌≤◌, Bool, true, false, cond, not, eqb, ltb, List, Some, None, Option, refl, arith}
 use Rattle.std.proofs.lemmas.Bool.{cond_both, eqb-false, eq-eqb, ltb-true, not_from_true, and_right}
 use Rattle.message.specs.declared.Message.{Message}
-use Rattle.message.specs.declared.codes.Code.{Code}
-use Rattle.message.specs.declared.codes.Code.TheVariants.{Full, OutOfTurn}
+use Rattle.protocol.specs.declared.CallCode.{CallCode}
+use Rattle.protocol.specs.declared.CallCode.TheVariants.{Full, OutOfTurn}
 use Rattle.message.specs.declared.kinds.Kind.{Kind}
 use Rattle.message.specs.declared.kinds.Kind.TheVariants.{ReadRequest, WriteRequest, Replacement, Update, Acknowledgement, ReadData, WriteData, Invalidate, Busy}
 use Rattle.message.specs.Checks.{given}
@@ -36,7 +36,7 @@ module _ (s : Scene) (r t : ℕ) (before : Legal s.entry) where
   Leaves = LeavesLegalEntry s.entry
 
   -- a refusal, and an acceptance with the same entry
-  refused_legal : {code : Code} → Leaves (refuses code)
+  refused_legal : {code : CallCode} → Leaves (refuses code)
   refused_legal = record { legal = before }
 
   same_legal : {holders : Holders} {waiting : ℕ → List Message} → Leaves (accepts s.entry holders waiting)
@@ -46,7 +46,7 @@ module _ (s : Scene) (r t : ℕ) (before : Legal s.entry) where
   either : (test : Bool) {one other : Ruling} → (test ≡ true → Leaves one) → (test ≡ false → Leaves other) → Leaves (cond test one other)
   either test {one} {other} = cond_both test one other Leaves
 
-  behind : (test : Bool) (code : Code) {ruling : Ruling} → Leaves ruling → Leaves (given test (refuses code) ruling)
+  behind : (test : Bool) (code : CallCode) {ruling : Ruling} → Leaves ruling → Leaves (given test (refuses code) ruling)
   behind test code follows = either test (λ _. follows) (λ _. refused_legal)
 
   -- the rules, in their order

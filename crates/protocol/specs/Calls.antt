@@ -1,7 +1,7 @@
 -- The five calls: the checks in their order, then the rules.
-use Rattle.std.specs.Prelude.{ℕ, cond, List, Some, None, Option, nat_lt, slice_set}
+use Rattle.std.specs.Prelude.{ℕ, cond, Some, None, Option, nat_lt, slice_set}
 use Rattle.message.specs.declared.Message.{Message}
-use Rattle.message.specs.declared.codes.Code.TheVariants.{Empty, OutOfTurn, NoSuchTerminal, NoSuchRecord, Unfit}
+use Rattle.protocol.specs.declared.CallCode.TheVariants.{Empty, OutOfTurn, NoSuchTerminal, NoSuchRecord, Unfit}
 use Rattle.message.specs.Checks.{given}
 use Rattle.message.specs.Kinds.{kind_of}
 use Rattle.network.specs.Traffic.{Traffic, oldest, after_drop, with_waiting}

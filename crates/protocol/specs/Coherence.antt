@@ -1,17 +1,16 @@
 -- The law of coherence over every list of calls.
-use Rattle.std.specs.Prelude.{◌≡◌, ℕ, zero, suc, ◌+◌, ◌*◌, ◌<◌, ◌≤◌, Bool, true, false, cond, List, [], ◌∷◌, length, ◌==◌, ◌≢◌}
+use Rattle.std.specs.Prelude.{◌≡◌, ℕ, zero, suc, ◌+◌, ◌*◌, ◌<◌, ◌≤◌, true, false, cond, List, [], ◌∷◌, length, ◌==◌, ◌≢◌}
 use Rattle.message.specs.declared.Message.{Message}
-use Rattle.message.specs.declared.codes.Code.{Code}
-use Rattle.message.specs.declared.codes.Code.TheVariants.{Accepted, Full}
+use Rattle.protocol.specs.declared.CallCode.TheVariants.{Accepted, Full}
 use Rattle.message.specs.declared.kinds.Kind.TheVariants.{Replacement}
-use Rattle.message.specs.Codes.{accepted}
+use Rattle.protocol.specs.Codes.{accepted}
 use Rattle.message.specs.Kinds.{opcode_of}
 use Rattle.directory.specs.Sets.{tally}
 use Rattle.protocol.specs.declared.Call.{Call}
 use Rattle.protocol.specs.declared.Call.TheVariants.{Read, Write, Release, HomeStep, TerminalStep}
 use Rattle.protocol.specs.declared.Sizes.{Sizes}
 use Rattle.protocol.specs.declared.Wait.TheVariants.{Nothing}
-use Rattle.protocol.specs.HomeSteps.{Given, entry_at}
+use Rattle.protocol.specs.HomeSteps.{entry_at}
 use Rattle.protocol.specs.Places.{has_copy, has_read_write, is_waiting}
 use Rattle.protocol.specs.Sites.{Site, place_at, wait_at}
 use Rattle.protocol.specs.Calls.{step}

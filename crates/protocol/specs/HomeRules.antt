@@ -1,6 +1,6 @@
 -- What the home does with a message about record r from terminal t, rule by rule; v is the value that it carries.
-use Rattle.std.specs.Prelude.{ℕ, ◌-◌, Bool, cond, not, ◌&&◌, Some, None, Option, ◌==◌, nat_lt}
-use Rattle.message.specs.declared.codes.Code.TheVariants.{Full, OutOfTurn}
+use Rattle.std.specs.Prelude.{ℕ, ◌-◌, Bool, cond, not, Some, None, Option, ◌==◌, nat_lt}
+use Rattle.protocol.specs.declared.CallCode.TheVariants.{Full, OutOfTurn}
 use Rattle.message.specs.declared.kinds.Kind.{Kind}
 use Rattle.message.specs.declared.kinds.Kind.TheVariants.{ReadRequest, WriteRequest, Replacement, Update, Acknowledgement, ReadData, WriteData, Invalidate, Busy}
 use Rattle.message.specs.Checks.{given}

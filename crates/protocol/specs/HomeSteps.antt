@@ -1,11 +1,11 @@
 -- A home step: the oldest message of an up lane is taken, and the home rules on it.
 use Rattle.std.specs.Prelude.{ℕ, Bool, cond, ◌&&◌, List, Some, None, Option, ◌==◌, nat_le, nat_lt, slice_index_or, slice_set}
 use Rattle.message.specs.declared.Message.{Message}
-use Rattle.message.specs.declared.codes.Code.{Code}
-use Rattle.message.specs.declared.codes.Code.TheVariants.{Accepted, Empty, OutOfTurn, NoSuchTerminal, Unfit}
+use Rattle.protocol.specs.declared.CallCode.{CallCode}
+use Rattle.protocol.specs.declared.CallCode.TheVariants.{Accepted, Empty, OutOfTurn, NoSuchTerminal, Unfit}
 use Rattle.message.specs.declared.kinds.Kind.{Kind}
 use Rattle.message.specs.Checks.{given}
-use Rattle.message.specs.Codes.{number}
+use Rattle.protocol.specs.Codes.{number}
 use Rattle.message.specs.Kinds.{kind_of}
 use Rattle.directory.specs.Directories.{View}
 use Rattle.directory.specs.Changes.{with_holders}
@@ -26,19 +26,19 @@ pub record Home : Type 0 where
 
 -- What a call gives: a code and a value, and what then holds.
 pub record Given (S : Type 0) : Type 0 where
-  pub code : Code
+  pub code : CallCode
   pub value : ℕ
   pub after : S
 
-abbrev pub gives : {S : Type 0} → Code → ℕ → S → Given S
+abbrev pub gives : {S : Type 0} → CallCode → ℕ → S → Given S
 gives code value after = record { code = code; value = value; after = after }
 
 -- A refusal changes nothing.
-abbrev pub unchanged : {S : Type 0} → Code → S → Given S
+abbrev pub unchanged : {S : Type 0} → CallCode → S → Given S
 unchanged code before = gives code 0 before
 
 -- A refusal of a step: only a message out of turn is taken off its lane.
-abbrev pub takes_off : Code → Bool
+abbrev pub takes_off : CallCode → Bool
 takes_off code = number code == number OutOfTurn
 
 -- The entry of a record that was never opened.

@@ -8,9 +8,8 @@ use Rattle.protocol.specs.declared.HomeState.{HomeState}
 use Rattle.protocol.specs.declared.HomeState.TheVariants.{ReadOnly, ReadWrite, ReadTransaction, WriteTransaction}
 use Rattle.protocol.specs.declared.Place.{Place}
 use Rattle.protocol.specs.declared.Sizes.{Sizes}
-use Rattle.protocol.specs.declared.Wait.{Wait}
 use Rattle.protocol.specs.declared.Wait.TheVariants.{Nothing}
-use Rattle.protocol.specs.HomeSteps.{Home, Given, blank, entry_at}
+use Rattle.protocol.specs.HomeSteps.{Given, blank, entry_at}
 use Rattle.protocol.specs.Sites.{Site}
 use Rattle.protocol.specs.Calls.{step}
 use Rattle.protocol.specs.Opening.{opening}

@@ -1,3 +1,4 @@
+pub mod Codes
 pub mod Sends
 pub mod Scenes
 pub mod HomeRules

@@ -1,7 +1,6 @@
 -- The opening of a site.
-use Rattle.std.specs.Prelude.{ℕ, zero, suc, ◌*◌, Bool, true, false, cond, not, ◌&&◌, List, length, nat_eq, nat_le, nat_lt, slice_index, slice_set}
-use Rattle.message.specs.declared.Message.{Message}
-use Rattle.message.specs.declared.codes.Code.TheVariants.{Accepted, Unfit}
+use Rattle.std.specs.Prelude.{ℕ, zero, suc, ◌*◌, Bool, not, ◌&&◌, List, length, nat_eq, nat_le, nat_lt, slice_index, slice_set}
+use Rattle.protocol.specs.declared.CallCode.TheVariants.{Accepted, Unfit}
 use Rattle.message.specs.Checks.{given}
 use Rattle.directory.specs.Directories.{Holders, size_fits}
 use Rattle.directory.specs.Changes.{with_holders}

@@ -1,16 +1,15 @@
 -- Lists of calls: what they leave, what they answer, and which values they write.
-use Rattle.std.specs.Prelude.{ℕ, Bool, cond, ◌&&◌, List, [], ◌∷◌, Some, None, Option, ◌==◌}
-use Rattle.message.specs.declared.codes.Code.{Code}
-use Rattle.message.specs.Codes.{accepted}
+use Rattle.std.specs.Prelude.{ℕ, cond, List, [], ◌∷◌, Some, None, Option, ◌==◌}
+use Rattle.protocol.specs.declared.CallCode.{CallCode}
+use Rattle.protocol.specs.Codes.{accepted}
 use Rattle.protocol.specs.declared.Call.{Call}
 use Rattle.protocol.specs.declared.Call.TheVariants.{Read, Write, Release, HomeStep, TerminalStep}
-use Rattle.protocol.specs.HomeSteps.{Given}
 use Rattle.protocol.specs.Sites.{Site}
 use Rattle.protocol.specs.Calls.{step}
 
 -- A call answers a code and a value.
 abbrev pub Answer : Type 0
-Answer = Code × ℕ
+Answer = CallCode × ℕ
 
 -- The site after a list of calls.
 unfoldable pub run : Site → List Call → Site

@@ -1,7 +1,6 @@
 -- A site: the home with its parts, the terminals, and the row of places.
 use Rattle.std.specs.Prelude.{ℕ, ◌+◌, ◌*◌, ◌%◌, Bool, ◌&&◌, List, length, nat_le, slice_index_or}
-use Rattle.message.specs.declared.Message.{Message}
-use Rattle.network.specs.Traffic.{Traffic, with_waiting}
+use Rattle.network.specs.Traffic.{Traffic}
 use Rattle.protocol.specs.declared.Place.{Place}
 use Rattle.protocol.specs.declared.Wait.{Wait}
 use Rattle.protocol.specs.declared.Wait.TheVariants.{Nothing}

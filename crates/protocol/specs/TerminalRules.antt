@@ -1,7 +1,7 @@
 -- What terminal t does about record r, rule by rule; v is the value that is written, or that a message carries.
 use Rattle.std.specs.Prelude.{ℕ, cond, not, ◌&&◌, ◌||◌, Some, None, Option, nat_le}
 use Rattle.message.specs.declared.Message.{Message}
-use Rattle.message.specs.declared.codes.Code.TheVariants.{Accepted, Requested, Waiting, Full, NoCopy, OutOfTurn}
+use Rattle.protocol.specs.declared.CallCode.TheVariants.{Accepted, Requested, Waiting, Full, NoCopy, OutOfTurn}
 use Rattle.message.specs.declared.kinds.Kind.{Kind}
 use Rattle.message.specs.declared.kinds.Kind.TheVariants.{ReadRequest, WriteRequest, Replacement, Update, Acknowledgement, ReadData, WriteData, Invalidate, Busy}
 use Rattle.message.specs.Checks.{given}

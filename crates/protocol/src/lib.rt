@@ -87,3 +87,29 @@ pub enum Call {
         terminal: usize,
     },
 }
+
+/// What a call of a site answers beside its value. The four cases that the answers of `message` have not are those of the site's
+/// own rules.
+#[derive(Clone, Copy, PartialEq, Eq, Debug)]
+pub enum CallCode {
+    /// Accepted.
+    Accepted,
+    /// A request was sent; the terminal waits for what it asked for.
+    Requested,
+    /// The terminal has no copy that would do, and waits already.
+    Waiting,
+    /// A lane is full.
+    Full,
+    /// A lane is empty.
+    Empty,
+    /// There is no copy to release.
+    NoCopy,
+    /// The message is out of turn.
+    OutOfTurn,
+    /// There is no such terminal.
+    NoSuchTerminal,
+    /// There is no such record.
+    NoSuchRecord,
+    /// Sizes or parts do not fit.
+    Unfit,
+}

@@ -4,13 +4,17 @@ use Rattle.std.proofs.lemmas.Bool.Decides.{nat_tests}
 use Rattle.directory.specs.Directories.{empty}
 use Rattle.directory.specs.Changes.{with_holders}
 use Rattle.full_map.specs.Words.{bit}
-use Rattle.full_map.specs.Digits.{bit_none}
-use Rattle.full_map.specs.Steps.{zeros}
+use Rattle.full_map.specs.Laws.{bit_none}
+use Rattle.full_map.proofs.Steps.{zeros}
 use Rattle.full_map.proofs.FullMap.new.Goals as goal
 
-pub invariant-of-result : goal.invariant-of-result
-invariant-of-result c =
-    (omega arith, ((λ r. subst (λ (w : ℕ). w < 2 ^ c.args.terminals) (sym (zeros r)) (pow_pos c.args.terminals)), ((λ r _. zeros r), tt)))
+pub invariant_of-result : goal.invariant_of-result
+invariant_of-result c =
+    record {
+      sizes = omega arith;
+      narrow = λ r. subst (λ (w : ℕ). w < 2 ^ c.args.terminals) (sym (zeros r)) (pow_pos c.args.terminals);
+      unused = λ r _. zeros r;
+    }
 
 pub returns : goal.returns
 returns c =

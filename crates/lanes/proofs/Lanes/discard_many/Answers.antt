@@ -4,22 +4,22 @@ use Rattle.lanes.proofs.Lands.{landed}
 use Rattle.lanes.proofs.Parts.{ends_within}
 use Rattle.lanes.proofs.Lanes.discard_many.Goals as goal
 
-pub offset-bounds-slots-from : goal.offset-bounds-slots-from
-offset-bounds-slots-from g c =
+pub offset_bounds-slots-from : goal.offset_bounds-slots-from
+offset_bounds-slots-from g c =
     let lanes = c.args.self.now in
     let end = ends_within (length lanes.slots.now) lanes.count lanes.size c.args.lane (omega arith) (omega arith) in
     let begin : c.args.lane * lanes.size ≤ length lanes.slots.now = omega arith in
     search rules
 
-pub slice-bounds-discard-in-end : goal.slice-bounds-discard-in-end
-slice-bounds-discard-in-end g c =
+pub slice_bounds-discard_in-end : goal.slice_bounds-discard_in-end
+slice_bounds-discard_in-end g c =
     let lanes = c.args.self.now in
     ends_within (length lanes.slots.now) lanes.count lanes.size c.args.lane (omega arith) (omega arith)
 
 pub returns : goal.returns
 returns g c =
     let lanes = c.args.self.now in
-    let is = landed lanes.slots.now lanes.spans lanes.count lanes.size c.args.lane c.discard-in-code.new.part c.discard-in-code.result.1 c.discard-in-code.result.0
+    let is = landed lanes.slots.now lanes.spans lanes.count lanes.size c.args.lane c.discard_in-code.new.part c.discard_in-code.result.1 c.discard_in-code.result.0
     (discard_code c.args.k) (discard_list c.args.k)
-    (omega arith) (omega arith) (omega arith) c.discard-in-code.auto.part c.discard-in-code.ensures.code c.discard-in-code.ensures.held in
+    (omega arith) (omega arith) (omega arith) c.discard_in-code.auto.part c.discard_in-code.ensures.code c.discard_in-code.ensures.held in
     record { standing = (omega arith, omega arith, is.room); code = is.answers; held = is.holds; count = refl; size = refl; lender = refl }

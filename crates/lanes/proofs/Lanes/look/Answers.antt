@@ -3,13 +3,13 @@ use Rattle.lanes.proofs.Lands.{looked_is}
 use Rattle.lanes.proofs.Parts.{ends_within}
 use Rattle.lanes.proofs.Lanes.look.Goals as goal
 
-pub offset-bounds-self-from : goal.offset-bounds-self-from
-offset-bounds-self-from g c =
+pub offset_bounds-self-from : goal.offset_bounds-self-from
+offset_bounds-self-from g c =
     let lanes = c.args.self.now in
     omega (arith, ends_within (length lanes.slots.now) lanes.count lanes.size c.args.lane (omega arith) (omega arith))
 
-pub slice-bounds-look-end : goal.slice-bounds-look-end
-slice-bounds-look-end g c =
+pub slice_bounds-look-end : goal.slice_bounds-look-end
+slice_bounds-look-end g c =
     let lanes = c.args.self.now in
     ends_within (length lanes.slots.now) lanes.count lanes.size c.args.lane (omega arith) (omega arith)
 

@@ -6,15 +6,15 @@ use Rattle.lanes.proofs.Lands.{landed}
 use Rattle.lanes.proofs.Parts.{ends_within, length_part}
 use Rattle.lanes.proofs.Lanes.put_all.Goals as goal
 
-pub offset-bounds-slots-from : goal.offset-bounds-slots-from
-offset-bounds-slots-from g c =
+pub offset_bounds-slots-from : goal.offset_bounds-slots-from
+offset_bounds-slots-from g c =
     let lanes = c.args.self.now in
     let end = ends_within (length lanes.slots.now) lanes.count lanes.size c.args.lane (omega arith) (omega arith) in
     let begin : c.args.lane * lanes.size ≤ length lanes.slots.now = omega arith in
     search rules
 
-pub slice-bounds-put-in-end : goal.slice-bounds-put-in-end
-slice-bounds-put-in-end g c =
+pub slice_bounds-put_in-end : goal.slice_bounds-put_in-end
+slice_bounds-put_in-end g c =
     let lanes = c.args.self.now in
     ends_within (length lanes.slots.now) lanes.count lanes.size c.args.lane (omega arith) (omega arith)
 
@@ -26,7 +26,7 @@ returns g c =
     let here : List _ = part slots lanes.size c.args.lane in
     let long : length here ≡ lanes.size = length_part slots lanes.count lanes.size c.args.lane (omega arith) (omega arith) in
     let old : List _ = waiting here (span_at lanes.spans c.args.lane).start (span_at lanes.spans c.args.lane).count in
-    let is = landed slots lanes.spans lanes.count lanes.size c.args.lane c.put-in-code.new.part c.put-in-code.result.1 c.put-in-code.result.0
+    let is = landed slots lanes.spans lanes.count lanes.size c.args.lane c.put_in-code.new.part c.put_in-code.result.1 c.put_in-code.result.0
     (λ (old : List _). put_code lanes.size old xs) (λ (old : List _). put_list lanes.size old xs)
-    (omega arith) (omega arith) (omega arith) c.put-in-code.auto.part (c.put-in-code.ensures.code ∙ ap (λ (n : ℕ). put_code n old xs) long) (c.put-in-code.ensures.held ∙ ap (λ (n : ℕ). put_list n old xs) long) in
+    (omega arith) (omega arith) (omega arith) c.put_in-code.auto.part (c.put_in-code.ensures.code ∙ ap (λ (n : ℕ). put_code n old xs) long) (c.put_in-code.ensures.held ∙ ap (λ (n : ℕ). put_list n old xs) long) in
     record { standing = (omega arith, omega arith, is.room); code = is.answers; held = is.holds; count = refl; size = refl; lender = refl }

@@ -25,7 +25,7 @@ returns g c =
     record {
       code = did.code;
       items =
-          ap (λ at. waiting (set slots at c.args.x) ring.start (ring.count + 1)) c.slot-of-at.ensures.value
+          ap (λ at. waiting (set slots at c.args.x) ring.start (ring.count + 1)) c.slot_of-at.ensures.value
           ∙ joins slots ring.start ring.count c.args.x ring.within.0 space
           ∙ did.items;
       room = length-set _ _ _;

@@ -1,5 +1,5 @@
 use Rattle.std.proofs.Common.{◌≡◌, ◌+◌, ◌<◌, ◌≤◌, [], ◌∷◌, ◌++◌, length, take, sym, refl, ap, ◌∙◌, arith}
-use Rattle.std.proofs.lemmas.List.{append_nil, length-append, length-take-le, take_all}
+use Rattle.std.proofs.lemmas.List.{append-nil, length-append, length-take-le, take_all}
 use Rattle.ring.specs.Rings.{items, room}
 use Rattle.ring.proofs.Cases.{put_in, put_refused}
 use Rattle.ring.proofs.Moves.{joins_next}
@@ -18,7 +18,7 @@ pub loop-i-init : goal.loop-i-init
 loop-i-init g c =
     let ring = c.args.self.now in
     let long = length_waiting ring.slots.now ring.start ring.count ring.within.0 ring.within.1 in
-    (omega arith, sym (append_nil (items ring)), refl, refl, omega arith)
+    (omega arith, sym (append-nil (items ring)), refl, refl, omega arith)
 
 pub loop-i-preserved : goal.loop-i-preserved
 loop-i-preserved g c =

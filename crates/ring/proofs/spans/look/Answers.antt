@@ -19,5 +19,5 @@ returns g c =
     let x = c.index-slots-at.result in
     let cut = cut_to slots c.args.span span c.within-start.ensures in
     seen slots span.start span.count c.args.k x cut.start cut.count (omega arith)
-    (c.index-slots-at.is ∙ ap (λ at. get_or slots at x) c.slot-of-at.ensures.value)
+    (c.index-slots-at.is ∙ ap (λ at. get_or slots at x) c.slot_of-at.ensures.value)
     ∙ ap (λ xs. slice_get xs c.args.k) cut.same

@@ -4,7 +4,7 @@ use Rattle.directory.specs.Directories.{View}
 use Rattle.directory.specs.Changes.{add_code, with_holders}
 use Rattle.directory.proofs.Adding.{added_accepted}
 use Rattle.full_map.specs.Maps.{map_view}
-use Rattle.full_map.specs.Steps.{set_narrow, set_unused, or_word, or_word_lt, map_accepts}
+use Rattle.full_map.proofs.Steps.{set_narrow, set_unused, or_word, or_word_lt, map_accepts}
 use Rattle.full_map.proofs.calls.FullMapDirectory.add.Goals as goal
 
 pub returns : goal.returns
@@ -19,13 +19,12 @@ returns c =
       after = ap (with_holders v) (or_word m.words c.args.r c.args.t l (omega arith)) ∙ sym (added_accepted v c.args.r c.args.t e);
     }
 
-pub invariant-of-self : goal.invariant-of-self
-invariant-of-self c =
+pub invariant_of-self : goal.invariant_of-self
+invariant_of-self c =
     let m = c.args.self.now in
-    let l : c.args.r < length m.words = omega arith in (
-      m.sizes,
-      (
-        set_narrow m.words m.terminals c.args.r _ m.narrow l (or_word_lt _ m.terminals c.args.t (m.narrow c.args.r) (omega arith) (omega arith)),
-        (set_unused m.words m.records c.args.r _ m.unused (omega arith), tt),
-      ),
-    )
+    let l : c.args.r < length m.words = omega arith in
+    record {
+      sizes = m.sizes;
+      narrow = set_narrow m.words m.terminals c.args.r _ m.narrow l (or_word_lt _ m.terminals c.args.t (m.narrow c.args.r) (omega arith) (omega arith));
+      unused = set_unused m.words m.records c.args.r _ m.unused (omega arith);
+    }

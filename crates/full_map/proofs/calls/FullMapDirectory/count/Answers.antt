@@ -1,7 +1,8 @@
 use Rattle.std.proofs.Common.{sym, arith}
 use Rattle.directory.proofs.Counting.{tally_none}
-use Rattle.full_map.specs.Digits.{ones_tally}
-use Rattle.full_map.specs.Steps.{unserved_record, word_lt}
+use Rattle.full_map.proofs.Digits.{ones_tally}
+use Rattle.full_map.specs.Laws.{unserved_record}
+use Rattle.full_map.proofs.Steps.{word_lt}
 use Rattle.full_map.proofs.calls.FullMapDirectory.count.Goals as goal
 
 pub returns-then-r-self : goal.returns-then-r-self

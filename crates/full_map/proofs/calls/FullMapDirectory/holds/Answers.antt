@@ -1,6 +1,6 @@
 use Rattle.std.proofs.Common.{get_or, sym, arith}
-use Rattle.full_map.specs.Digits.{bit_test}
-use Rattle.full_map.specs.Steps.{unserved_record, unserved_terminal}
+use Rattle.full_map.proofs.Digits.{bit_test}
+use Rattle.full_map.specs.Laws.{unserved_record, unserved_terminal}
 use Rattle.full_map.proofs.calls.FullMapDirectory.holds.Goals as goal
 
 pub returns-then-r-self : goal.returns-then-r-self

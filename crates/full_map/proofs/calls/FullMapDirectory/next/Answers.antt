@@ -1,7 +1,8 @@
 use Rattle.std.proofs.Common.{get_or, sym, arith}
 use Rattle.directory.proofs.Finding.{least_none}
 use Rattle.full_map.proofs.Masks.{next_none, next_some}
-use Rattle.full_map.specs.Steps.{unserved_record, unserved_terminal, word_lt}
+use Rattle.full_map.specs.Laws.{unserved_record, unserved_terminal}
+use Rattle.full_map.proofs.Steps.{word_lt}
 use Rattle.full_map.proofs.calls.FullMapDirectory.next.Goals as goal
 
 pub returns-then-r-self : goal.returns-then-r-self
@@ -14,12 +15,12 @@ returns-then-t-self c =
     let m = c.args.self.now in
     record { answer = sym (least_none _ c.args.t 64 (λ u h _. unserved_terminal m.words m.terminals c.args.r u m.narrow (omega arith))) }
 
-pub returns-then-from-t-eq0 : goal.returns-then-from-t-eq0
-returns-then-from-t-eq0 c =
+pub returns-then-from_t-eq0 : goal.returns-then-from_t-eq0
+returns-then-from_t-eq0 c =
     let m = c.args.self.now in
-    record { answer = sym (next_none (get_or m.words c.args.r 0) c.args.t (omega arith) (word_lt _ m.terminals m.sizes.3 (m.narrow c.args.r)) c.if-from-t-eq0.true) }
+    record { answer = sym (next_none (get_or m.words c.args.r 0) c.args.t (omega arith) (word_lt _ m.terminals m.sizes.3 (m.narrow c.args.r)) c.if-from_t-eq0.true) }
 
 pub returns : goal.returns
 returns c =
     let m = c.args.self.now in
-    record { answer = sym (next_some (get_or m.words c.args.r 0) c.args.t (omega arith) (word_lt _ m.terminals m.sizes.3 (m.narrow c.args.r)) c.if-from-t-eq0.false) }
+    record { answer = sym (next_some (get_or m.words c.args.r 0) c.args.t (omega arith) (word_lt _ m.terminals m.sizes.3 (m.narrow c.args.r)) c.if-from_t-eq0.false) }

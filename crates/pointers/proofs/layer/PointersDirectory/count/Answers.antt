@@ -15,8 +15,8 @@ returns-then-r-records g c =
     let v : View = g.D.Directory.view c.args.self.now.below in
     record { answer = sym (tally_none _ 64 (λ u. unserved v _ c.args.r u (g.met.D.Directory.sound c.args.self.now.below) (omega arith))) }
 
-pub overflow-add-n : goal.overflow-add-n
-overflow-add-n g c =
+pub overflow_add-n : goal.overflow_add-n
+overflow_add-n g c =
     let v : View = g.D.Directory.view c.args.self.now.below in
     omega (arith, c.loop-i.invariant, tally_le (union v (take c.loop-i.i c.row-row.result.numbers) c.args.r) 64)
 

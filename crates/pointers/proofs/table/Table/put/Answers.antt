@@ -3,8 +3,11 @@ use Rattle.pointers.specs.Rows.{apart}
 use Rattle.pointers.proofs.Lists.{each_set}
 use Rattle.pointers.proofs.table.Table.put.Goals as goal
 
-pub invariant-of-self : goal.invariant-of-self
-invariant-of-self c =
+pub invariant_of-self : goal.invariant_of-self
+invariant_of-self c =
     let t = c.args.self.now in
     let l : c.args.r < length t.rows = omega arith in
-    (simp length-set t.size, (each_set (λ _ w. apart w.numbers ≡ true) t.rows c.args.r c.args.row _ l t.once c.requires.once, tt))
+    record {
+      size = simp length-set t.size;
+      once = each_set (λ _ w. apart w.numbers ≡ true) t.rows c.args.r c.args.row _ l t.once c.requires.once;
+    }

@@ -1,8 +1,7 @@
 -- The bits of a word, place by place: what or, shifts, `count_ones` and `trailing_zeros` do to them.
-use Rattle.std.specs.Prelude.{◌≡◌, ℕ, zero, suc, ◌+◌, ◌-◌, ◌*◌, ◌/◌, ◌%◌, ◌^◌, ◌<◌, ◌≤◌, Bool, true, false, cond, ◌||◌, ◌==◌, bit_and, count_ones, nat_eq, refl}
-use Rattle.std.proofs.Common.{sym, ◌∙◌, ap, ap₂, subst, mod-lt, div-one, one-mul, arith, add-one, pow_pos, pow_mono, shr-shr, shr_lt}
+use Rattle.std.specs.Prelude.{◌≡◌, ℕ, zero, suc, ◌+◌, ◌-◌, ◌*◌, ◌/◌, ◌%◌, ◌^◌, ◌<◌, Bool, true, false, cond, ◌||◌, ◌==◌, bit_and, count_ones, nat_eq, refl}
+use Rattle.std.proofs.Common.{sym, ◌∙◌, ap, ap₂, subst, mod-lt, div-one, one-mul, arith, add-one, pow_pos, shr-shr, shr_lt}
 use Rattle.std.proofs.Math.Path.{fun_ext}
-use Rattle.std.proofs.Math.Nat.{div-eq_of_lt}
 use Rattle.std.proofs.Math.Dec.{eqb-suc-suc, eqb-suc-zero, eqb-zero-suc}
 use Rattle.std.specs.Int.Bits.{bit_or, shifted_half, shifted_even}
 use Rattle.std.proofs.lemmas.Nat.Bits.{and_high}
@@ -11,6 +10,7 @@ use Rattle.std.proofs.Math.Pow.{pow-lt, shr_mod}
 use Rattle.std.proofs.lemmas.Nat.{mod-mul-add, or_shr, or_mod, and_mask, ones-le, shl-shr}
 use Rattle.std.proofs.lemmas.Bool.{eq-eqb}
 use Rattle.full_map.specs.Words.{bit}
+use Rattle.full_map.specs.Laws.{bit_none}
 use Rattle.directory.specs.Sets.{tally}
 
 -- the digits above the lowest
@@ -19,17 +19,6 @@ unfolding bit
 bit_suc w t =
     let e : 1 + t ≡ suc t = omega arith in
     ap (λ (x : ℕ). nat_eq (x % 2) 1) (sym (shr-shr w 1 t ∙ ap (λ (k : ℕ). w / 2 ^ k) e))
-
-pub bit_none : (t : ℕ) → bit 0 t ≡ false
-unfolding bit
-bit_none t = ap (λ (x : ℕ). nat_eq (x % 2) 1) (div-eq_of_lt (pow_pos t))
-
-pub bit_above : (w k t : ℕ) → w < 2 ^ k → k ≤ t → bit w t ≡ false
-unfolding bit
-bit_above w k t h l =
-    let m = pow_mono l in
-    let lt : w < 2 ^ t = omega arith in
-    ap (λ (x : ℕ). nat_eq (x % 2) 1) (div-eq_of_lt lt)
 
 or_digits : (x y : ℕ) → x < 2 → y < 2 → (bit_or x y == 1) ≡ (x == 1 || y == 1)
 or_digits zero zero h k = refl

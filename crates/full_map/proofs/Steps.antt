@@ -1,37 +1,18 @@
 -- What each call does to the words of a full map.
-use Rattle.std.specs.Prelude.{◌≡◌, ℕ, zero, suc, ◌*◌, ◌%◌, ◌^◌, ◌<◌, ◌≤◌, Bool, true, false, not, ◌&&◌, ◌||◌, List, length, set, replicate, ◌==◌, ◌≢◌, slice_index, slice_set, refl}
+use Rattle.std.specs.Prelude.{◌≡◌, ℕ, zero, suc, ◌*◌, ◌%◌, ◌^◌, ◌<◌, ◌≤◌, Bool, true, false, not, ◌&&◌, ◌||◌, List, length, replicate, ◌==◌, ◌≢◌, slice_index, slice_set, refl}
 use Rattle.std.proofs.Common.{sym, ◌∙◌, ap, subst, ⊎_elim, arith, pow_mono, get_or-set_same, get_or-set_other}
 use Rattle.std.proofs.Math.Path.{fun_ext}
 use Rattle.std.specs.Int.Bits.{bit_or}
 use Rattle.std.proofs.Math.Pow.{pow-lt}
 use Rattle.std.proofs.lemmas.Nat.{one_shl, or_lt}
-use Rattle.std.proofs.lemmas.Bool.{cases_eq, cases_lt, cases_Bool, both_ways, eq-eqb, ne_eqb}
+use Rattle.std.proofs.lemmas.Bool.{cases_eq, cases_Bool, eq-eqb, ne_eqb}
 use Rattle.message.specs.declared.codes.Code.TheVariants.{Accepted}
 use Rattle.directory.specs.Changes.{joined, emptied, add_code}
 use Rattle.directory.proofs.Counting.{tally_lt}
 use Rattle.directory.proofs.Adding.{holder_accepted, newcomer_accepted}
 use Rattle.full_map.specs.Words.{bit, of_words}
-use Rattle.full_map.specs.Digits.{bit_of_or, bit_pow, bit_none, bit_above}
-
--- every word is narrow: no bit at or above the number of terminals is set
-abbrev pub Narrow : List ℕ → ℕ → Type 0
-Narrow ws ts = (r : ℕ) → slice_index ws r < 2 ^ ts
-
--- the words of records that are not served are 0
-abbrev pub Unused : List ℕ → ℕ → Type 0
-Unused ws rs = (r : ℕ) → rs ≤ r → slice_index ws r ≡ 0
-
-pub unserved_record : (ws : List ℕ) (rs r t : ℕ) → Unused ws rs → rs ≤ r → bit (slice_index ws r) t ≡ false
-unserved_record ws rs r t unused h = ap (λ (w : ℕ). bit w t) (unused r h) ∙ bit_none t
-
-pub unserved_terminal : (ws : List ℕ) (ts r t : ℕ) → Narrow ws ts → ts ≤ t → bit (slice_index ws r) t ≡ false
-unserved_terminal ws ts r t narrow h = bit_above (slice_index ws r) ts t (narrow r) h
-
-pub served : (ws : List ℕ) (rs ts : ℕ) → Narrow ws ts → Unused ws rs → (r t : ℕ) → bit (slice_index ws r) t ≡ true → (r < rs) × (t < ts)
-served ws rs ts narrow unused r t e = (
-  ⊎_elim (λ h. h) (λ h. absurd (both_ways _ (unserved_record ws rs r t unused h) e)) (cases_lt r rs),
-  ⊎_elim (λ h. h) (λ h. absurd (both_ways _ (unserved_terminal ws ts r t narrow h) e)) (cases_lt t ts),
-)
+use Rattle.full_map.specs.Laws.{Narrow, Unused, bit_none}
+use Rattle.full_map.proofs.Digits.{bit_of_or, bit_pow}
 
 -- the words after an add
 pub or_word : (ws : List ℕ) (r t : ℕ) → r < length ws → t < 64
