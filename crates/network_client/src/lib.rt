@@ -27,10 +27,10 @@ pub fn put_both<N: Network>(
     second: usize,
     y: Message,
 ) -> (Code, Code)
-    ensures first { result.0 ≡ put_code (traffic net.old) first x }
-    ensures second { result.1 ≡ put_code (after_put (traffic net.old) first x) second y }
-    ensures after { traffic net.new ≡ after_put (after_put (traffic net.old) first x) second y }
-    ensures apart { (first ≢ second) → Apart (traffic net.old) (traffic net.new) first x second y result }
+    ensures first { result.0 ≡ put_code (N.traffic net.old) first x }
+    ensures second { result.1 ≡ put_code (after_put (N.traffic net.old) first x) second y }
+    ensures after { N.traffic net.new ≡ after_put (after_put (N.traffic net.old) first x) second y }
+    ensures apart { (first ≢ second) → Apart (N.traffic net.old) (N.traffic net.new) first x second y result }
 {
     let a = net.put(first, x);
     let b = net.put(second, y);
@@ -39,8 +39,8 @@ pub fn put_both<N: Network>(
 
 /// Makes one call.
 pub fn apply<N: Network>(net: &mut N, call: Call) -> Code
-    ensures code { result ≡ code_of (traffic net.old) call }
-    ensures after { traffic net.new ≡ after_call (traffic net.old) call }
+    ensures code { result ≡ code_of (N.traffic net.old) call }
+    ensures after { N.traffic net.new ≡ after_call (N.traffic net.old) call }
 {
     match call {
         Call::Put { lane, message } => net.put(lane, message),
@@ -50,7 +50,7 @@ pub fn apply<N: Network>(net: &mut N, call: Call) -> Code
 
 /// Makes calls one after another.
 pub fn run<N: Network>(net: &mut N, calls: &[Call])
-    ensures after { traffic net.new ≡ after_calls (traffic net.old) calls.now }
+    ensures after { N.traffic net.new ≡ after_calls (N.traffic net.old) calls.now }
 {
     for call in calls {
         let _ = apply(net, *call);

@@ -19,7 +19,7 @@ length_small false = omega arith
 
 fields : (source length opcode : ℕ) → length < 2 ^ 8 → opcode < 2 ^ 8
     → (opcode_in (source * 2 ^ 16 + length * 2 ^ 8 + opcode) ≡ opcode) × (length_in (source * 2 ^ 16 + length * 2 ^ 8 + opcode) ≡ length) × (source_in (source * 2 ^ 16 + length * 2 ^ 8 + opcode) ≡ source)
-fields s l o length-fits opcode-fits = (omega arith, omega arith, omega arith)
+fields s l o length_fits opcode_fits = (omega arith, omega arith, omega arith)
 
 -- A value is made of its halves.
 halves : (v : ℕ) → v / 2 ^ 32 * 2 ^ 32 + v % 2 ^ 32 ≡ v

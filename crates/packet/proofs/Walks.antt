@@ -1,6 +1,6 @@
 -- Packets one after another are read as they were written, and written as they were read.
-use Rattle.std.proofs.Common.{◌≡◌, ℕ, zero, suc, ◌+◌, ◌-◌, ◌<◌, ◌≤◌, true, false, leb, List, [], ◌∷◌, ◌++◌, length, take, drop, Some, None, Ok, Err, Result, sym, refl, ap, ◌∙◌, arith, length-append}
-use Rattle.std.proofs.lemmas.List.{append_assoc, append_nil, drop_all, drop_at, drop-drop, get_or-drop, take-append-drop}
+use Rattle.std.proofs.Common.{◌≡◌, ℕ, zero, suc, ◌+◌, ◌<◌, ◌≤◌, true, false, leb, List, [], ◌∷◌, ◌++◌, length, take, drop, Some, None, Ok, Err, Result, sym, refl, ap, ◌∙◌, arith, length-append}
+use Rattle.std.proofs.lemmas.List.{append_assoc, append-nil, drop_all, drop_at, drop-drop, get_or-drop, take-append-drop}
 use Rattle.std.proofs.lemmas.Bool.{and_parts, le-leb, leb-true, lt-leb}
 use Rattle.packet.specs.declared.Fault.{Fault}
 use Rattle.packet.specs.declared.Packet.{Packet}
@@ -15,11 +15,11 @@ use Rattle.packet.proofs.WrittenBack.{Words, handed_out}
 -- One step of a walk: a packet, or a fault.
 pub walk_on : (more : ℕ) (words : List ℕ) (at : ℕ) (p : Packet) → at < length words → packet_at words at ≡ Ok p
     → walk_from (suc more) words at ≡ onward p (walk_from more words (at + length (packet_words p)))
-walk_on more words at p here is = let open-end : leb (length words) at ≡ false = lt-leb _ _ here in rw (open-end, is)
+walk_on more words at p here is = let open_end : leb (length words) at ≡ false = lt-leb _ _ here in rw (open_end, is)
 
 pub walk_stop : (more : ℕ) (words : List ℕ) (at : ℕ) (f : Fault) → at < length words → packet_at words at ≡ Err f
     → walk_from (suc more) words at ≡ record { packets = []; fault = Some f }
-walk_stop more words at f here is = let open-end : leb (length words) at ≡ false = lt-leb _ _ here in rw (open-end, is)
+walk_stop more words at f here is = let open_end : leb (length words) at ≡ false = lt-leb _ _ here in rw (open_end, is)
 
 -- A walk at the end of the words.
 pub walk_end : (more : ℕ) (words : List ℕ) (at : ℕ) → length words ≤ at → walk_from more words at ≡ ended []
@@ -29,7 +29,7 @@ walk_end (suc more) words at end = let done : leb (length words) at ≡ true = l
 -- Packets that can be sent, after whatever words, are walked as these packets.
 walked : (ps : List Packet) (before : List ℕ) (more : ℕ) → all_sendable ps ≡ true → length (stream ps) ≤ more
     → walk_from more (before ++ stream ps) (length before) ≡ ended ps
-walked [] before more can room = walk_end more (before ++ []) (length before) (rw append_nil (omega arith))
+walked [] before more can room = walk_end more (before ++ []) (length before) (rw append-nil (omega arith))
 walked (p ∷ ps) before zero can room =
     let some = sendable_some p (and_parts (sendable p) (all_sendable ps) can).0 in
     let long = length-append (packet_words p) (stream ps) in
@@ -73,9 +73,9 @@ left_again zero words at fit enough whole = sym (drop_all at words (omega arith)
 left_again (suc more) words at fit enough whole =
     elim (leb (length words) at) as (λ b. leb (length words) at ≡ b → stream (walk_from (suc more) words at).packets ≡ drop at words) [
       | true ↦ λ done. rw done (sym (drop_all at words (leb-true _ _ done)))
-      | false ↦ λ open-end. rw open-end
+      | false ↦ λ open_end. rw open_end
           (first_again (packet_at words at) words at (λ p. walk_from more words (at + length (packet_words p))) fit refl
-          (λ p some. left_again more words (at + length (packet_words p)) fit (omega arith)) (rw open-end at whole))
+          (λ p some. left_again more words (at + length (packet_words p)) fit (omega arith)) (rw open_end at whole))
     ] refl
 
 -- Words that are accepted to the end are what the writer makes of what was read.

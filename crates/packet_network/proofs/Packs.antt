@@ -1,6 +1,6 @@
 -- Messages that are packed into words are what a reader finds there.
-use Rattle.std.proofs.Common.{◌≡◌, ℕ, ◌+◌, ◌*◌, ◌≤◌, Bool, true, false, cond, eqb, leb, List, [], ◌∷◌, ◌++◌, length, Some, None, Option, sym, refl, ap, ◌∙◌, arith}
-use Rattle.std.proofs.lemmas.List.{append_assoc, append_nil, length-append}
+use Rattle.std.proofs.Common.{◌≡◌, ℕ, ◌*◌, ◌≤◌, Bool, true, false, cond, eqb, leb, List, [], ◌∷◌, ◌++◌, length, Some, None, Option, sym, refl, ap, ◌∙◌, arith}
+use Rattle.std.proofs.lemmas.List.{append_assoc, append-nil, length-append}
 use Rattle.std.proofs.lemmas.Bool.{and_from, and_parts, le-leb}
 use Rattle.message.specs.declared.Message.{Message}
 use Rattle.message.specs.declared.kinds.Kind.{Kind}
@@ -49,7 +49,7 @@ length_stream l (m ∷ ms) =
 -- One message more.
 pub stream_push : (l : ℕ) (ms : List Message) (m : Message)
     → stream (packets_in l (ms ++ m ∷ [])) ≡ stream (packets_in l ms) ++ packet_words (packet_in l m)
-stream_push l [] m = append_nil (packet_words (packet_in l m))
+stream_push l [] m = append-nil (packet_words (packet_in l m))
 stream_push l (k ∷ ms) m =
     ap (λ (words : List ℕ). packet_words (packet_in l k) ++ words) (stream_push l ms m)
     ∙ sym (append_assoc (packet_words (packet_in l k)) (stream (packets_in l ms)) (packet_words (packet_in l m)))

@@ -1,7 +1,7 @@
 -- Words that are laid over a buffer from a place on.
 use Rattle.std.proofs.Common.{◌≡◌, ℕ, ◌+◌, ◌-◌, ◌≤◌, List, ◌++◌, length, take, drop, sym, refl, ap, ◌∙◌, arith, length-append, length-drop}
 use borrow.Rule.Slice.PartMut.{put_mid}
-use Rattle.std.proofs.lemmas.List.{append_assoc, append_nil, drop_all, drop_at, drop-drop, length-take-le, take-append-drop, take_at}
+use Rattle.std.proofs.lemmas.List.{append_assoc, append-nil, drop_all, drop_at, drop-drop, length-take-le, take-append-drop, take_at}
 use Rattle.packet.specs.Writing.{laid_over}
 
 -- A write to all of a buffer from a place on leaves what was before that place.
@@ -10,7 +10,7 @@ put_rest old new at =
     let long = length-drop at old in
     let few : length (drop at old) ≤ length old - at = omega arith in
     ap (λ (back : List ℕ). take at old ++ (new ++ back)) (drop_all (length old - at) (drop at old) few)
-    ∙ ap (λ (words : List ℕ). take at old ++ words) (append_nil new)
+    ∙ ap (λ (words : List ℕ). take at old ++ words) (append-nil new)
 
 -- A buffer that is written up to a place, and from there on is as it was.
 pub record Filled (old out : List ℕ) (at : ℕ) : Type 0 where

@@ -1,6 +1,6 @@
 -- Words that are read and written again.
 use Rattle.std.proofs.Common.{◌≡◌, ℕ, suc, ◌+◌, ◌-◌, ◌<◌, ◌≤◌, true, false, leb, List, [], ◌++◌, length, take, drop, None, Ok, Err, Result, sym, refl, ap, ◌∙◌, subst, arith, length-drop, take-add}
-use Rattle.std.proofs.lemmas.List.{append_assoc, append_nil}
+use Rattle.std.proofs.lemmas.List.{append_assoc, append-nil}
 use Rattle.std.proofs.lemmas.Bool.{le-leb, leb-false, leb-true}
 use Rattle.packet.specs.declared.Fault.{Fault}
 use Rattle.packet.specs.declared.Packet.{Packet}
@@ -78,7 +78,7 @@ written_again : (words old out : List ℕ) (at count : ℕ) → Rewriting words 
     → (walk_from (length words - count) words at).packets ≡ [] → (out ≡ rewritten words old) × (count ≡ length (walk words).packets)
 written_again words old out at count before none =
     let roomy : leb (length words) (length old) ≡ true = le-leb _ _ before.roomy in
-    let front = before.same ∙ sym (append_nil (take at words)) ∙ ap (λ (ps : List Packet). take at words ++ stream ps) (sym none) ∙ before.found in
+    let front = before.same ∙ sym (append-nil (take at words)) ∙ ap (λ (ps : List Packet). take at words ++ stream ps) (sym none) ∙ before.found in
     let held = filled_is old out (stream (walk words).packets) at before.filled front in
     (rw roomy held.1, omega (arith, ap length none, before.total))
 

@@ -1,6 +1,6 @@
 -- Packets that are written one after another.
 use Rattle.std.proofs.Common.{◌≡◌, ℕ, ◌+◌, ◌-◌, ◌<◌, ◌≤◌, true, false, cond, List, [], ◌∷◌, ◌++◌, length, get_or, take, drop, sym, refl, ap, ◌∙◌, subst, arith, length-drop}
-use Rattle.std.proofs.lemmas.List.{append_assoc, append_nil, drop_all, drop_more, take-append-drop}
+use Rattle.std.proofs.lemmas.List.{append_assoc, append-nil, drop_all, drop_more, take-append-drop}
 use Rattle.std.proofs.lemmas.Bool.{both_ways}
 use Rattle.message.proofs.Accepts.{accepted_only}
 use Rattle.message.specs.declared.codes.Code.{Code}
@@ -110,7 +110,7 @@ stopped ps old out i at p before next refused =
     let none = taken_not p (drop (i + 1) ps) (length out - at) refused in
     let left : drop at out ≡ written p (drop at out) = rw (length-drop at out, refused) in
     let front : take at out ≡ stream (taken ps (length old)) =
-    sym (append_nil (take at out))
+    sym (append-nil (take at out))
     ∙ ap (λ (qs : List Packet). take at out ++ stream qs) (sym none.0 ∙ ap (taken (p ∷ drop (i + 1) ps)) room ∙ ap (λ (qs : List Packet). taken qs (length old - at)) (sym next))
     ∙ before.words in
     let code = sym none.1 ∙ ap (stream_code (p ∷ drop (i + 1) ps)) room ∙ ap (λ (qs : List Packet). stream_code qs (length old - at)) (sym next) ∙ before.code in
@@ -127,4 +127,4 @@ sending_stopped ps old out after i at c before here words code refused =
 pub sending_done : (ps : List Packet) (old out : List ℕ) (i at : ℕ) → Sending ps old out i at → length ps ≤ i → Sent ps old out Accepted at
 sending_done ps old out i at before end =
     let none = drop_all i ps end in
-    sent ps old out Accepted at before.filled (sym (append_nil (take at out)) ∙ rw none at before.words) (rw none at before.code)
+    sent ps old out Accepted at before.filled (sym (append-nil (take at out)) ∙ rw none at before.words) (rw none at before.code)

@@ -9,4 +9,4 @@ returns-then-at-end c =
 pub returns : goal.returns
 returns c =
     let front = between_to_end c.args.words.now c.args.at (length c.args.words.now) (omega arith) in
-    record { value = rw (← front) c.read-front.ensures.value; handed = rw (← front) c.read-front.ensures.handed }
+    record { value = rw (← front) c.read_front.ensures.value; handed = rw (← front) c.read_front.ensures.handed }

@@ -24,24 +24,30 @@ returns-then-waiting-eq0 c =
     let did = drop_none t c.args.lane there none in
     record { code = did.code; after = same_traffic t (after_drop t c.args.lane) refl refl did.waiting }
 
-pub invariant-of-self : goal.invariant-of-self
-invariant-of-self c =
+pub invariant_of-self : goal.invariant_of-self
+invariant_of-self c =
     let net = c.args.self.now in
-    let gone = c.discard-many.ensures in
+    let gone = c.discard_many.ensures in
     let there : c.args.lane < net.lanes.count = omega (arith, c.lanes.ensures.value) in
     let some : 1 ≤ get_or net.counts c.args.lane 0 = omega arith in
     let counts = set net.counts c.args.lane (get_or net.counts c.args.lane 0 - 1) in
-    let step = drop_net net (held c.discard-many.new.self) c.args.lane _ there (omega arith) some c.oldest-size-size.ensures gone.held in
-    let holds = subst (λ (n : ℕ). Holds (held c.discard-many.new.self) counts n net.depth) (sym gone.count) step.holds in (
-      (omega (arith, gone.count), omega (arith, gone.count), omega arith, omega arith),
-      (gone.size ∙ net.words, (gone.standing, (holds.within, (holds.whole, (holds.counted, (holds.sendable, tt)))))),
-    )
+    let step = drop_net net (held c.discard_many.new.self) c.args.lane _ there (omega arith) some c.oldest_size-size.ensures gone.held in
+    let holds = subst (λ (n : ℕ). Holds (held c.discard_many.new.self) counts n net.depth) (sym gone.count) step.holds in
+    record {
+      sizes = (omega (arith, gone.count), omega (arith, gone.count), omega arith, omega arith);
+      words = gone.size ∙ net.words;
+      standing = gone.standing;
+      within = holds.within;
+      whole = holds.whole;
+      counted = holds.counted;
+      sendable = holds.sendable;
+    }
 
 pub returns : goal.returns
 returns c =
     let net = c.args.self.now in
-    let gone = c.discard-many.ensures in
+    let gone = c.discard_many.ensures in
     let there : c.args.lane < net.lanes.count = omega (arith, c.lanes.ensures.value) in
     let some : 1 ≤ get_or net.counts c.args.lane 0 = omega arith in
-    let did = (drop_net net (held c.discard-many.new.self) c.args.lane _ there (omega arith) some c.oldest-size-size.ensures gone.held).did in
+    let did = (drop_net net (held c.discard_many.new.self) c.args.lane _ there (omega arith) some c.oldest_size-size.ensures gone.held).did in
     record { code = did.code; after = same_traffic _ (after_drop (traffic_of net) c.args.lane) gone.count refl did.waiting }

@@ -9,10 +9,10 @@ pub returns-in-Some : goal.returns-in-Some
 returns-in-Some c =
     let net = c.args.self.now in
     let there : c.args.lane < net.lanes.count = omega (arith, c.lanes.ensures.value) in
-    sym (ap message_of c.in-Some.is) ∙ head_step (held net.lanes) net.counts net.lanes.count net.depth c.args.lane c.oldest-in.result (holds_of net) there c.oldest-in.ensures
+    sym (ap message_of c.in-Some.is) ∙ head_step (held net.lanes) net.counts net.lanes.count net.depth c.args.lane c.oldest_in.result (holds_of net) there c.oldest_in.ensures
 
 pub returns-in-None : goal.returns-in-None
 returns-in-None c =
     let net = c.args.self.now in
     let there : c.args.lane < net.lanes.count = omega (arith, c.lanes.ensures.value) in
-    sym (ap message_of c.in-None.is) ∙ head_step (held net.lanes) net.counts net.lanes.count net.depth c.args.lane c.oldest-in.result (holds_of net) there c.oldest-in.ensures
+    sym (ap message_of c.in-None.is) ∙ head_step (held net.lanes) net.counts net.lanes.count net.depth c.args.lane c.oldest_in.result (holds_of net) there c.oldest_in.ensures

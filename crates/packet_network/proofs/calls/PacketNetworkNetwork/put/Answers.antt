@@ -15,11 +15,11 @@ returns-then-lane-lanes c =
     let did = put_absent t c.args.lane c.args.message past in
     record { code = did.code; after = same_traffic t (after_put t c.args.lane c.args.message) refl refl did.waiting }
 
-pub returns-then-not-is-well-formed : goal.returns-then-not-is-well-formed
-returns-then-not-is-well-formed c =
+pub returns-then-not-is_well_formed : goal.returns-then-not-is_well_formed
+returns-then-not-is_well_formed c =
     let t = traffic_of c.args.self.now in
     let there : c.args.lane < t.lanes = omega (arith, c.lanes.ensures.value) in
-    let did = put_malformed t c.args.lane c.args.message there (sym c.if-not-is-well-formed.ensures) in
+    let did = put_malformed t c.args.lane c.args.message there (sym c.if-not-is_well_formed.ensures) in
     record { code = did.code; after = same_traffic t (after_put t c.args.lane c.args.message) refl refl did.waiting }
 
 pub returns-then-count-depth : goal.returns-then-count-depth
@@ -28,27 +28,33 @@ returns-then-count-depth c =
     let t = traffic_of net in
     let there : c.args.lane < t.lanes = omega (arith, c.lanes.ensures.value) in
     let full : t.depth ≤ length (t.waiting c.args.lane) = omega (arith, c.depth.ensures.value, net.counted c.args.lane there) in
-    let did = put_full t c.args.lane c.args.message there (sym c.if-not-is-well-formed.ensures) full in
+    let did = put_full t c.args.lane c.args.message there (sym c.if-not-is_well_formed.ensures) full in
     record { code = did.code; after = same_traffic t (after_put t c.args.lane c.args.message) refl refl did.waiting }
 
-pub invariant-of-self : goal.invariant-of-self
-invariant-of-self c =
+pub invariant_of-self : goal.invariant_of-self
+invariant_of-self c =
     let net = c.args.self.now in
-    let put = c.put-all.ensures in
+    let put = c.put_all.ensures in
     let there : c.args.lane < net.lanes.count = omega (arith, c.lanes.ensures.value) in
     let room : get_or net.counts c.args.lane 0 < net.depth = omega (arith, c.depth.ensures.value) in
     let counts = set net.counts c.args.lane (get_or net.counts c.args.lane 0 + 1) in
-    let step = put_net net (held c.put-all.new.self) c.args.lane c.args.message _ there (omega arith) (sym c.if-not-is-well-formed.ensures) room c.words-in-size.ensures.words put.held in
-    let holds = subst (λ (n : ℕ). Holds (held c.put-all.new.self) counts n net.depth) (sym put.count) step.holds in (
-      (omega (arith, put.count), omega (arith, put.count), omega arith, omega arith),
-      (put.size ∙ net.words, (put.standing, (holds.within, (holds.whole, (holds.counted, (holds.sendable, tt)))))),
-    )
+    let step = put_net net (held c.put_all.new.self) c.args.lane c.args.message _ there (omega arith) (sym c.if-not-is_well_formed.ensures) room c.words_in-size.ensures.words put.held in
+    let holds = subst (λ (n : ℕ). Holds (held c.put_all.new.self) counts n net.depth) (sym put.count) step.holds in
+    record {
+      sizes = (omega (arith, put.count), omega (arith, put.count), omega arith, omega arith);
+      words = put.size ∙ net.words;
+      standing = put.standing;
+      within = holds.within;
+      whole = holds.whole;
+      counted = holds.counted;
+      sendable = holds.sendable;
+    }
 
 pub returns : goal.returns
 returns c =
     let net = c.args.self.now in
-    let put = c.put-all.ensures in
+    let put = c.put_all.ensures in
     let there : c.args.lane < net.lanes.count = omega (arith, c.lanes.ensures.value) in
     let room : get_or net.counts c.args.lane 0 < net.depth = omega (arith, c.depth.ensures.value) in
-    let did = (put_net net (held c.put-all.new.self) c.args.lane c.args.message _ there (omega arith) (sym c.if-not-is-well-formed.ensures) room c.words-in-size.ensures.words put.held).did in
+    let did = (put_net net (held c.put_all.new.self) c.args.lane c.args.message _ there (omega arith) (sym c.if-not-is_well_formed.ensures) room c.words_in-size.ensures.words put.held).did in
     record { code = did.code; after = same_traffic _ (after_put (traffic_of net) c.args.lane c.args.message) put.count refl did.waiting }

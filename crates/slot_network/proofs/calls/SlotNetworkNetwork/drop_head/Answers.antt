@@ -12,8 +12,8 @@ pub returns : goal.returns
 returns c =
     let t = traffic_of c.args.self.now in
     let l = c.args.lane in
-    let gone = c.discard-many.ensures in
-    let answer : c.discard-many.result ≡ checked t.lanes l (discard_code 1 (t.waiting l)) = gone.code in
-    let left : held c.discard-many.new.self ≡ changed t.lanes t.waiting l (discard_list 1 (t.waiting l)) = gone.held in
+    let gone = c.discard_many.ensures in
+    let answer : c.discard_many.result ≡ checked t.lanes l (discard_code 1 (t.waiting l)) = gone.code in
+    let left : held c.discard_many.new.self ≡ changed t.lanes t.waiting l (discard_list 1 (t.waiting l)) = gone.held in
     let did = drop_meant t l in
     record { code = answer ∙ did.code; after = same_traffic _ (after_drop t l) gone.count gone.size (left ∙ did.waiting) }

@@ -16,11 +16,11 @@ returns-then-lane-lanes c =
     let did = put_absent t c.args.lane c.args.message past in
     record { code = did.code; after = same_traffic t (after_put t c.args.lane c.args.message) refl refl did.waiting }
 
-pub returns-then-not-is-well-formed : goal.returns-then-not-is-well-formed
-returns-then-not-is-well-formed c =
+pub returns-then-not-is_well_formed : goal.returns-then-not-is_well_formed
+returns-then-not-is_well_formed c =
     let t = traffic_of c.args.self.now in
     let there : c.args.lane < t.lanes = omega (arith, c.lanes.ensures.value) in
-    let did = put_malformed t c.args.lane c.args.message there (sym c.if-not-is-well-formed.ensures) in
+    let did = put_malformed t c.args.lane c.args.message there (sym c.if-not-is_well_formed.ensures) in
     record { code = did.code; after = same_traffic t (after_put t c.args.lane c.args.message) refl refl did.waiting }
 
 pub returns : goal.returns
@@ -28,9 +28,9 @@ returns c =
     let t = traffic_of c.args.self.now in
     let l = c.args.lane in
     let m = c.args.message in
-    let put = c.put-all.ensures in
+    let put = c.put_all.ensures in
     let there : l < t.lanes = omega (arith, c.lanes.ensures.value) in
-    let answer : c.put-all.result ≡ checked t.lanes l (put_code t.depth (t.waiting l) (m ∷ [])) = put.code in
-    let left : held c.put-all.new.self ≡ changed t.lanes t.waiting l (put_list t.depth (t.waiting l) (m ∷ [])) = put.held in
-    let did = put_meant t l m there (sym c.if-not-is-well-formed.ensures) in
+    let answer : c.put_all.result ≡ checked t.lanes l (put_code t.depth (t.waiting l) (m ∷ [])) = put.code in
+    let left : held c.put_all.new.self ≡ changed t.lanes t.waiting l (put_list t.depth (t.waiting l) (m ∷ [])) = put.held in
+    let did = put_meant t l m there (sym c.if-not-is_well_formed.ensures) in
     record { code = answer ∙ did.code; after = same_traffic _ (after_put t l m) put.count put.size (left ∙ did.waiting) }
