@@ -22,12 +22,12 @@ use Rattle.protocol.specs.Places.{invalid}
 use Rattle.protocol.specs.Sites as protocol
 use Rattle.machine.specs.Site as model
 use Rattle.machine.specs.Calls as model_calls
-use Rattle.machine.specs.Machine.{Phase, Read-Only, Read-Write, Transaction, reading, writing, Msg, REQ, REPM, UPDATE, ACKC, INV, BUSY, DATA, Home, home}
+use Rattle.machine.specs.Machine.{Phase, read_only, read_write, Transaction, reading, writing, Msg, REQ, REPM, UPDATE, ACKC, INV, BUSY, DATA, Home, home}
 use Rattle.machine.specs.Site.{Mail, mail, Sizes, Site, empty, shared, owned, Want, rests, wants}
 
 abbrev pub phase_of : HomeState → Phase
-phase_of ReadOnly = Read-Only
-phase_of ReadWrite = Read-Write
+phase_of ReadOnly = read_only
+phase_of ReadWrite = read_write
 phase_of ReadTransaction = Transaction reading
 phase_of WriteTransaction = Transaction writing
 
@@ -125,5 +125,5 @@ abbrev pub call_of : Call → model_calls.Call ℕ
 call_of (Read t r) = model_calls.read t r
 call_of (Write t r v) = model_calls.write t r v
 call_of (Release t r) = model_calls.release t r
-call_of (HomeStep t) = model_calls.home-turn t
-call_of (TerminalStep t) = model_calls.terminal-turn t
+call_of (HomeStep t) = model_calls.home_turn t
+call_of (TerminalStep t) = model_calls.terminal_turn t

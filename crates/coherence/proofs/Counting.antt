@@ -13,7 +13,7 @@ use Rattle.protocol.specs.Sites.{Site, wait_at}
 use Rattle.protocol.specs.Calls.{step}
 use Rattle.protocol.specs.Runs.{answers}
 use Rattle.protocol.specs.Coherence as law
-use Rattle.protocol.specs.Coherence.{Step, by_Home, by-terminal, number_accepted, calls_of, replacements, sum_below}
+use Rattle.protocol.specs.Coherence.{Step, by_home, by_terminal, number_accepted, calls_of, replacements, sum_below}
 use Rattle.machine.specs.Machine.{count}
 use Rattle.machine.specs.HomeRules.{one_replacement}
 use Rattle.machine.specs.Site as model
@@ -75,8 +75,8 @@ waiters_alike s =
 
 -- steps, one by one
 pub step_of : Step → told.Step
-step_of (by_Home t) = told.by_Home t
-step_of (by-terminal t) = told.by-terminal t
+step_of (by_home t) = told.by_home t
+step_of (by_terminal t) = told.by_terminal t
 
 pub steps_of : List Step → List told.Step
 steps_of [] = []
@@ -84,13 +84,13 @@ steps_of (x ∷ xs) = step_of x ∷ steps_of xs
 
 step_alike : (s : Site) (last : ℕ → ℕ) → Stands s last → (x : Step) → Simulates (step s (law.call_of x)) (model_calls.step (sizes s) (abs s) (told.call_of (step_of x)))
 unfolding step_of
-step_alike s last K (by_Home t) = step_simulates s last K.sized K.kept (HomeStep t)
-step_alike s last K (by-terminal t) = step_simulates s last K.sized K.kept (TerminalStep t)
+step_alike s last K (by_home t) = step_simulates s last K.sized K.kept (HomeStep t)
+step_alike s last K (by_terminal t) = step_simulates s last K.sized K.kept (TerminalStep t)
 
 -- a step writes no record
 step_on : (s : Site) (last : ℕ → ℕ) → Stands s last → (x : Step) → Stands (step s (law.call_of x)).after last
-step_on s last K (by_Home t) = step_stands s last K (HomeStep t)
-step_on s last K (by-terminal t) = step_stands s last K (TerminalStep t)
+step_on s last K (by_home t) = step_stands s last K (HomeStep t)
+step_on s last K (by_terminal t) = step_stands s last K (TerminalStep t)
 
 pub accepted_alike : (last : ℕ → ℕ) (xs : List Step) (s : Site) → Stands s last → number_accepted (answers s (calls_of xs)) ≡ told.accepted (sizes s) (abs s) (steps_of xs)
 unfolding number_accepted answers told.accepted steps_of

@@ -22,7 +22,7 @@ use Rattle.protocol.specs.HomeRules as law
 use Rattle.protocol.specs.HomeRules.{entry_of, others, all_holders_below, sole_holder, ruled, recalled_from, replaced_by, finished_for}
 use Rattle.machine.specs.Machine as machine
 use Rattle.machine.specs.HomeRules as machine_homerules
-use Rattle.machine.specs.Machine.{reading, writing, Phase, Read-Only, Read-Write, Transaction, Msg, REQ, REPM, UPDATE, ACKC, INV, BUSY, DATA, Home, home, same, count, besides, join, nobody}
+use Rattle.machine.specs.Machine.{reading, writing, Phase, read_only, read_write, Transaction, Msg, REQ, REPM, UPDATE, ACKC, INV, BUSY, DATA, Home, home, same, count, besides, join, nobody}
 use Rattle.machine.specs.HomeRules.{Act, act, one_holder, on, on_read_only, on_read_write, on_transaction}
 use Rattle.machine.specs.Site.{Mail, mail}
 use Rattle.machine.specs.Turns.{room}
@@ -106,25 +106,25 @@ module _ (n : ℕ) (dir : View) (down : Traffic) (n64 : n ≤ 64) (r t : ℕ) (t
           (accepts (entry_of ReadOnly v a) (cond b (joined holders r t) holders) (sending.sent f t (message_of ReadData r v)))
           (accepts (entry_of ReadOnly v a) (cond b (joined holders r t) holders) (sending.sent f t (message_of Busy r 0))))
           (refuses Full))
-          (cond (p t || ltb (count p 64) dir.limit) (act (home Read-Only v 0 (join t p)) (same t) (DATA reading v)) (act (home Read-Only v 0 p) (same t) BUSY))
+          (cond (p t || ltb (count p 64) dir.limit) (act (home read_only v 0 (join t p)) (same t) (DATA reading v)) (act (home read_only v 0 p) (same t) BUSY))
       pick true e =
           rw (sym e)
           (to_one ReadOnly v a t tn _ _ refl
           (record {
-            next_is = ap₂ (λ (x : ℕ) (q : ℕ → Bool). home Read-Only v x q) z (joined_is holders r t (omega arith));
+            next_is = ap₂ (λ (x : ℕ) (q : ℕ → Bool). home read_only v x q) z (joined_is holders r t (omega arith));
             others_are = λ k d. joined_else holders r t k d;
             down_is = sent_one down_of f t (message_of ReadData r v) (mail r (DATA reading v)) refl;
           }))
       pick false e =
           rw (sym e)
           (to_one ReadOnly v a t tn _ _ refl
-          (record { next_is = ap (λ (x : ℕ). home Read-Only v x p) z; others_are = λ k d. refl; down_is = sent_one down_of f t (message_of Busy r 0) (mail r BUSY) refl }))
+          (record { next_is = ap (λ (x : ℕ). home read_only v x p) z; others_are = λ k d. refl; down_is = sent_one down_of f t (message_of Busy r 0) (mail r BUSY) refl }))
 
-  write_unshared : (v a : ℕ) → a ≡ 0 → Does (sc ReadOnly v a) r (law.write_unshared (sc ReadOnly v a) r t) (act (home Read-Write v 0 (same t)) (same t) (DATA writing v))
+  write_unshared : (v a : ℕ) → a ≡ 0 → Does (sc ReadOnly v a) r (law.write_unshared (sc ReadOnly v a) r t) (act (home read_write v 0 (same t)) (same t) (DATA writing v))
   write_unshared v a z =
       to_one ReadOnly v a t tn _ _ refl
       (record {
-        next_is = ap₂ (λ (x : ℕ) (q : ℕ → Bool). home Read-Write v x q) z (alone_holds holders r t (omega arith));
+        next_is = ap₂ (λ (x : ℕ) (q : ℕ → Bool). home read_write v x q) z (alone_holds holders r t (omega arith));
         others_are = λ k d. alone_else holders r t k d;
         down_is = sent_one down_of f t (message_of WriteData r v) (mail r (DATA writing v)) refl;
       })
@@ -162,7 +162,7 @@ module _ (n : ℕ) (dir : View) (down : Traffic) (n64 : n ≤ 64) (r t : ℕ) (t
     where
       pick : (b : Bool)
           → Does (sc ReadOnly v a) r (cond b (law.write_unshared (sc ReadOnly v a) r t) (law.write_shared (sc ReadOnly v a) r t))
-          (cond b (act (home Read-Write v 0 (same t)) (same t) (DATA writing v)) (cond (eqb (count p 64) (count p n)) (act (home (Transaction writing) v (tally (sending.besides h t) 64) (same t)) (besides t p) INV) none))
+          (cond b (act (home read_write v 0 (same t)) (same t) (DATA writing v)) (cond (eqb (count p 64) (count p n)) (act (home (Transaction writing) v (tally (sending.besides h t) 64) (same t)) (besides t p) INV) none))
       pick true = write_unshared v a z
       pick false =
           subst (λ (k : ℕ). Does (sc ReadOnly v a) r (law.write_shared (sc ReadOnly v a) r t) (cond (eqb (count p 64) (count p n)) (act (home (Transaction writing) v k (same t)) (besides t p) INV) none)) (others_count h t) (write_shared v a)
@@ -193,19 +193,19 @@ module _ (n : ℕ) (dir : View) (down : Traffic) (n64 : n ≤ 64) (r t : ℕ) (t
           }))
 
   replaced : (v a w : ℕ) → a ≡ 0 → (x : Option ℕ) → Sole n h x
-      → Does (sc ReadWrite v a) r (replaced_by x (sc ReadWrite v a) r t w) (cond (p t && one_holder n 64 p) (act (home Read-Only w 0 nobody) nobody BUSY) none)
+      → Does (sc ReadWrite v a) r (replaced_by x (sc ReadWrite v a) r t w) (cond (p t && one_holder n 64 p) (act (home read_only w 0 nobody) nobody BUSY) none)
   replaced v a w z None S = rw (S, and_no (p t)) refl
   replaced v a w z (Some i) S =
-      subst (λ (y : ℕ → Bool). Does (sc ReadWrite v a) r (replaced_by (Some i) (sc ReadWrite v a) r t w) (cond (y t && one_holder n 64 y) (act (home Read-Only w 0 nobody) nobody BUSY) none)) (sym S.0)
+      subst (λ (y : ℕ → Bool). Does (sc ReadWrite v a) r (replaced_by (Some i) (sc ReadWrite v a) r t w) (cond (y t && one_holder n 64 y) (act (home read_only w 0 nobody) nobody BUSY) none)) (sym S.0)
       (rw (one_same n i n64 S.1) (pick (same i t) (view i t)))
     where
       pick : (b : Bool) → Same i t b
           → Does (sc ReadWrite v a) r (cond (eqb i t) (accepts (entry_of ReadOnly w a) (emptied holders r) f) (refuses OutOfTurn))
-          (cond (b && true) (act (home Read-Only w 0 nobody) nobody BUSY) none)
+          (cond (b && true) (act (home read_only w 0 nobody) nobody BUSY) none)
       pick true (eq e) =
           rw (eq-eqb i t e)
           (to_none ReadWrite v a _ _ refl
-          (record { next_is = ap₂ (λ (y : ℕ) (g : ℕ → Bool). home Read-Only w y g) z (emptied_holds holders r); others_are = λ k d. emptied_else holders r k d; down_is = refl }))
+          (record { next_is = ap₂ (λ (y : ℕ) (g : ℕ → Bool). home read_only w y g) z (emptied_holds holders r); others_are = λ k d. emptied_else holders r k d; down_is = refl }))
       pick false (ne d) = rw (ne_eqb i t d) refl
 
   -- transactions: the requester gets the value in the next state

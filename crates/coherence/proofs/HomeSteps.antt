@@ -107,7 +107,7 @@ head_simulates s last I J t tn (m ∷ ms) e = pick (ltb m.«record» s.home.reco
         answer_simulates s I t tn m ms e rb (J.each m.«record» rb).fit.owed
     pick false f = out_of_turn s I t tn m ms e
 
-pub home_step_simulates : (s : Site) (last : ℕ → ℕ) → Sized s → Invariant (sizes s) (abs s) last → (t : ℕ) → Simulates (site_home_step s t) (model_calls.step (sizes s) (abs s) (model_calls.home-turn t))
+pub home_step_simulates : (s : Site) (last : ℕ → ℕ) → Sized s → Invariant (sizes s) (abs s) last → (t : ℕ) → Simulates (site_home_step s t) (model_calls.step (sizes s) (abs s) (model_calls.home_turn t))
 unfolding model_calls.step model_turns.home_step
 home_step_simulates s last I J t = rw (I.row_long, I.parts_large) (pick (ltb t s.home.terminals) refl)
   where

@@ -23,7 +23,7 @@ use Rattle.protocol.specs.Opening.{opening_value, opened_entries, opened_holders
 use Rattle.protocol.specs.Coherence.{Tables}
 use Rattle.machine.specs.Site as model
 use Rattle.machine.specs.Claims as model_law
-use Rattle.machine.specs.Machine.{home, Read-Only, nobody, same}
+use Rattle.machine.specs.Machine.{home, read_only, nobody, same}
 use Rattle.machine.proofs.Counts.{Same, eq, ne, view}
 use Rattle.machine.proofs.Coherence.{opened_invariant}
 use Rattle.coherence.proofs.Abstraction.{abs, sizes, within, home_of, place_of, want_of, each, up_of, down_of}
@@ -185,7 +185,7 @@ module _ (s : Site) (z : Sizes) (values : List ℕ) (K : Tables s) (F : Openable
         homes =
             λ r l.
             ap (λ (e : Entry). home_of e (opened_holders s.home.directory.holders z.records r)) (fresh r l)
-            ∙ ap (λ (q : ℕ → Bool). home Read-Only (opening_value values r) 0 q) (nobody_holds r l);
+            ∙ ap (λ (q : ℕ → Bool). home read_only (opening_value values r) 0 q) (nobody_holds r l);
         places = empty_place;
         waits = λ t l. ap want_of (rests t l);
         ups = λ t l. ap (each up_of) (empty_at s.home.up z.terminals t F.up_empty l);

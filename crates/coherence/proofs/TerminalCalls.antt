@@ -174,7 +174,7 @@ module _ (s : Site) (last : ℕ → ℕ) (I : Sized s) (J : Invariant (sizes s) 
       pick false =
           record { site_is = site_path refl refl refl (lanes_dropped down_of s.home.down t m ms (omega (arith, (served s I).down_lanes)) e); code_is = refl; value_is = refl }
 
-  pub terminal_step_simulates : Simulates (terminal_step s t) (model_calls.step (sizes s) (abs s) (model_calls.terminal-turn t))
+  pub terminal_step_simulates : Simulates (terminal_step s t) (model_calls.step (sizes s) (abs s) (model_calls.terminal_turn t))
   unfolding model_calls.step model_turns.terminal_step
   terminal_step_simulates =
       at_simulates s I t _ _ (λ tn. rw (lt-ltb t s.home.down.lanes (omega (arith, (served s I).down_lanes))) (head_simulates tn (s.home.down.waiting t) refl))

@@ -18,7 +18,7 @@ use Rattle.protocol.specs.Opening.{opening, opening_value}
 use Rattle.protocol.specs.Runs.{run, answers, effect, with_effect}
 use Rattle.protocol.specs.Legal.{LegalCount}
 use Rattle.protocol.specs.Coherence as law
-use Rattle.protocol.specs.Coherence.{by_Home, by-terminal, EveryRunCoherent, Coherence}
+use Rattle.protocol.specs.Coherence.{by_home, by_terminal, EveryRunCoherent, Coherence}
 use Rattle.legal.proofs.Operations.{entries_stay_legal}
 use Rattle.machine.specs.Site as model
 use Rattle.machine.specs.Claims as told
@@ -82,8 +82,8 @@ module _ (s : Site) (last : ℕ → ℕ) (K : Stands s last) where
   accepted_number c e = accepted_only c (rw e refl)
 
   stuck : law.NoStepLeft s → told.Stuck (sizes s) S
-  stuck h (told.by_Home t) e = h (by_Home t) (accepted_number (step s (HomeStep t)).code ((step_simulates s last K.sized K.kept (HomeStep t)).code_is ∙ e))
-  stuck h (told.by-terminal t) e = h (by-terminal t) (accepted_number (step s (TerminalStep t)).code ((step_simulates s last K.sized K.kept (TerminalStep t)).code_is ∙ e))
+  stuck h (told.by_home t) e = h (by_home t) (accepted_number (step s (HomeStep t)).code ((step_simulates s last K.sized K.kept (HomeStep t)).code_is ∙ e))
+  stuck h (told.by_terminal t) e = h (by_terminal t) (accepted_number (step s (TerminalStep t)).code ((step_simulates s last K.sized K.kept (TerminalStep t)).code_is ∙ e))
 
   comes_to_rest : law.Deep s → law.NoStepLeft s → law.AtRest s
   comes_to_rest deep h t l =

@@ -1,9 +1,9 @@
 -- The text of words is read as these words: digit by digit, and then word by word.
 use Rattle.std.proofs.Common.{◌≡◌, ℕ, zero, suc, ◌+◌, ◌*◌, ◌/◌, ◌%◌, ◌^◌, ◌<◌, ◌≤◌, true, false, eqb, ltb, List, [], ◌∷◌, ◌++◌, Some, sym, ap, ◌∙◌, pow-suc, arith}
-use Rattle.std.proofs.lemmas.List.{append_assoc, append_nil}
+use Rattle.std.proofs.lemmas.List.{append_assoc, append-nil}
 use Rattle.std.proofs.lemmas.Bool.{lt-ltb}
 use Rattle.std.proofs.lemmas.Bool.Decides.{nat_tests}
-use Rattle.std.specs.List.{AllByRecursion as All}
+use Rattle.std.specs.List.{AllByRecursion}
 use Rattle.hex_text.specs.declared.Passed.{Passed}
 use Rattle.hex_text.specs.Bytes.{white, hex_digit}
 use Rattle.hex_text.specs.Reading.{no_word, complete, read_on, reading}
@@ -42,8 +42,8 @@ digits_read (suc k) n ws p rest few range =
     let bytes : p.bytes + k + 1 ≡ p.bytes + suc k = omega arith in
     rw split (high ∙ low ∙ rw (value, digits, bytes))
 
-words_read : (vs ws : List ℕ) (p : Passed) → All (λ w. w < 2 ^ 32) ws → read_on vs no_word p (text_of ws) ≡ complete (vs ++ ws)
-words_read vs [] p small = ap complete (sym (append_nil vs))
+words_read : (vs ws : List ℕ) (p : Passed) → AllByRecursion (λ w. w < 2 ^ 32) ws → read_on vs no_word p (text_of ws) ≡ complete (vs ++ ws)
+words_read vs [] p small = ap complete (sym (append-nil vs))
 words_read vs (w ∷ ws) p small =
     digits_read 8 w vs p (10 ∷ text_of ws) (omega arith) (omega (arith, small.0))
     ∙ words_read (vs ++ (w ∷ [])) ws _ small.1

@@ -1,6 +1,6 @@
 -- Words written as a text, and the law that such a text is read as just these words.
 use Rattle.std.specs.Prelude.{◌≡◌, ℕ, zero, suc, ◌+◌, ◌/◌, ◌%◌, ◌^◌, ◌<◌, cond, List, [], ◌∷◌, ◌++◌, nat_lt}
-use Rattle.std.specs.List.{AllByRecursion as All}
+use Rattle.std.specs.List.{AllByRecursion}
 use Rattle.hex_text.specs.Reading.{complete, reading}
 
 -- The byte of a digit: 0 to 9, then a to f.
@@ -19,4 +19,4 @@ text_of (w ∷ ws) = low_digits 8 w ++ (10 ∷ text_of ws)
 
 -- The text of any words below 2^32 is read to its end, as exactly these words.
 abbrev pub TextReadsBack : Type 0
-TextReadsBack = (ws : List ℕ) → All (λ w. w < 2 ^ 32) ws → reading (text_of ws) ≡ complete ws
+TextReadsBack = (ws : List ℕ) → AllByRecursion (λ w. w < 2 ^ 32) ws → reading (text_of ws) ≡ complete ws

@@ -3,7 +3,7 @@
 use Rattle.std.proofs.Common.{◌≡◌, ℕ, ◌+◌, ◌%◌, ◌<◌, Bool, true, false, cond, ltb, leb, [], length, sym, refl, ap, ◌∙◌, subst, arith, ltb-true}
 use mathlib.Core.Option.{none, some}
 use Rattle.std.proofs.lemmas.Bool.{cond_both}
-use Rattle.machine.specs.Machine.{same, Copy, no_copy, readable, writable, cell, reading, writing, Phase, Read-Only, Read-Write, Transaction, Home, home, nobody, still}
+use Rattle.machine.specs.Machine.{same, Copy, no_copy, readable, writable, cell, reading, writing, Phase, read_only, read_write, Transaction, Home, home, nobody, still}
 use Rattle.machine.specs.Site.{Place, owned, Want, rests, Sizes, Site, copy_of, wait_of, messages_about, projection, wants}
 use Rattle.machine.specs.Turns.{Out, out}
 use Rattle.machine.specs.Calls.{read, step, read_at, miss, after_asking, evict}
@@ -129,8 +129,8 @@ module _ {V : Type 0} where
   -- An entry that the shapes fit is legal.
   legal : (n : ℕ) (last : V) (ph : Phase) (v : V) (a : ℕ) (p : ℕ → Bool) (f : ℕ → Shape) → Fit n last (home ph v a p) f
       → Legal n ph a
-  legal n last Read-Only v a p f F = F.owed
-  legal n last Read-Write v a p f F = F.owed
+  legal n last read_only v a p f F = F.owed
+  legal n last read_write v a p f F = F.owed
   legal n last (Transaction reading) v a p f F = F.owed
   legal n last (Transaction writing) v a p f F =
       let h : ℕ = F.held.0 in

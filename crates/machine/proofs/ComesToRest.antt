@@ -1,12 +1,12 @@
 -- With deep lanes, where no step is accepted the lanes are empty and nobody waits: who waits with empty lanes is a requester,
 -- and a requester is owed an acknowledgement, which is in a lane.
 use Rattle.std.proofs.Common.{◌≡◌, ℕ, ◌+◌, ◌<◌, ◌≤◌, Bool, true, false, List, [], ◌∷◌, sym, refl, subst, arith}
-use Rattle.machine.specs.Machine.{Access, reading, writing, Phase, Read-Only, Read-Write, Transaction, Home, home, count}
+use Rattle.machine.specs.Machine.{Access, reading, writing, Phase, read_only, read_write, Transaction, Home, home, count}
 use Rattle.machine.specs.Site.{Mail, Want, rests, wants, Sizes, Site, messages_about, wait_of, projection}
 use Rattle.machine.specs.Calls.{step}
 use Rattle.machine.specs.Shapes.{Shape, idle, sharer, owner, requester, clean, dirty, decode}
 use Rattle.machine.specs.Invariant.{owing, allowed, Fit, RecordInvariant, PlaceFree, Invariant}
-use Rattle.machine.specs.Claims.{Deep, by_Home, by-terminal, Stuck, AtRest}
+use Rattle.machine.specs.Claims.{Deep, by_home, by_terminal, Stuck, AtRest}
 use Rattle.machine.proofs.Counts.{count_some, same_refl, clash}
 use Rattle.machine.proofs.Weights.{weigh, one}
 use Rattle.machine.proofs.TerminalTakes.{wait_weight}
@@ -34,18 +34,18 @@ module _ {V : Type 0} where
   -- Where there is a requester, somebody owes.
   requester_owed : (n : ℕ) (last : V) (ph : Phase) (v : V) (a : ℕ) (p : ℕ → Bool) (f : ℕ → Shape) → Fit n last (home ph v a p) f
       → (t : ℕ) → t < n → is_requester (f t) ≡ true → 1 ≤ count (λ u. owing (f u)) n
-  requester_owed n last Read-Only v a p f F t l h = absurd (bad (p t) (f t) (F.each t l) h)
+  requester_owed n last read_only v a p f F t l h = absurd (bad (p t) (f t) (F.each t l) h)
     where
-      bad : (b : Bool) (s : Shape) → allowed Read-Only b s ≡ true → is_requester s ≡ true → ⊥
+      bad : (b : Bool) (s : Shape) → allowed read_only b s ≡ true → is_requester s ≡ true → ⊥
       bad b (requester x) o i = clash o
       bad b (idle x) o i = clash i
       bad b (sharer x) o i = clash i
       bad b (owner x) o i = clash i
       bad b (clean x) o i = clash i
       bad b (dirty x) o i = clash i
-  requester_owed n last Read-Write v a p f F t l h = absurd (bad (p t) (f t) (F.each t l) h)
+  requester_owed n last read_write v a p f F t l h = absurd (bad (p t) (f t) (F.each t l) h)
     where
-      bad : (b : Bool) (s : Shape) → allowed Read-Write b s ≡ true → is_requester s ≡ true → ⊥
+      bad : (b : Bool) (s : Shape) → allowed read_write b s ≡ true → is_requester s ≡ true → ⊥
       bad b (requester x) o i = clash o
       bad b (idle x) o i = clash i
       bad b (sharer x) o i = clash i
@@ -73,13 +73,13 @@ module _ {V : Type 0} where
     up_empty : (t : ℕ) → t < sizes.n → (ys : List (Mail V)) → site.up t ≡ ys → site.up t ≡ []
     unfolding step
     up_empty t lt [] e = e
-    up_empty t lt (x ∷ xs) e = absurd (stuck (by_Home t) (home_accepts sizes site last I D t lt x xs e))
+    up_empty t lt (x ∷ xs) e = absurd (stuck (by_home t) (home_accepts sizes site last I D t lt x xs e))
 
     -- Down lanes are empty: the terminal's turn would be accepted.
     down_empty : (t : ℕ) → t < sizes.n → (ys : List (Mail V)) → site.down t ≡ ys → site.down t ≡ []
     unfolding step
     down_empty t lt [] e = e
-    down_empty t lt (x ∷ xs) e = absurd (stuck (by-terminal t) (terminal_accepts sizes site last I D t lt x xs e))
+    down_empty t lt (x ∷ xs) e = absurd (stuck (by_terminal t) (terminal_accepts sizes site last I D t lt x xs e))
 
     -- Nobody waits.
     no_wait : (t : ℕ) → t < sizes.n → (w : Want) → site.wait t ≡ w → site.wait t ≡ rests

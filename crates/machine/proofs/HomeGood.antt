@@ -2,9 +2,9 @@
 -- invariant. So the home never drops a message that a call sent.
 use Rattle.std.proofs.Common.{◌≡◌, ℕ, ◌<◌, ◌≤◌, Bool, true, false, not, List, [], ◌∷◌, sym, refl, ap, ◌∙◌, subst}
 use borrow.Author.Tests.{not-true}
-use Rattle.machine.specs.Machine.{Access, reading, writing, Msg, BUSY, Cell, Phase, Read-Only, Read-Write, Transaction, Home, home, REQ, REPM, ACKC, UPDATE}
+use Rattle.machine.specs.Machine.{Access, reading, writing, Msg, BUSY, Cell, Phase, read_only, read_write, Transaction, Home, home, REQ, REPM, ACKC, UPDATE}
 use Rattle.machine.specs.HomeRules.{pop_up, push_down}
-use Rattle.machine.specs.Shapes.{to_read, to_write, Idle, quiet, asking, turned_away, holding, asking_again, data_coming, permission_coming, owning, given_back, given_back_asking, Clean, told, told-asking, told-turned-away, data-coming-told, acked, asked-acked, acked-asked, acked-turned-away, Dirty, permission_coming_told, owning-told, given-back-told, given_back_asking_told, update-sent, given-back-acked, given-back-asked-acked, given-back-acked-asked, update-sent-asked, Shape, idle, sharer, owner, requester, clean, dirty, decode, access}
+use Rattle.machine.specs.Shapes.{to_read, to_write, Idle, quiet, asking, turned_away, holding, asking_again, data_coming, permission_coming, owning, given_back, given_back_asking, Clean, told, told_asking, told_turned_away, data_coming_told, acked, asked_acked, acked_asked, acked_turned_away, Dirty, permission_coming_told, owning_told, given_back_told, given_back_asking_told, update_sent, given_back_acked, given_back_asked_acked, given_back_acked_asked, update_sent_asked, Shape, idle, sharer, owner, requester, clean, dirty, decode, access}
 use Rattle.machine.specs.Invariant.{role, owing, has_value, copyless, allowed, RecordInvariant}
 use Rattle.machine.proofs.Counts.{clash}
 use Rattle.machine.proofs.NewShapes.{Good}
@@ -22,9 +22,9 @@ module _ {V : Type 0} where
       (n served limit : ℕ) (last v : V) (a : ℕ) (wide : n ≤ served) (holders : ℕ → Bool) (cells : ℕ → Cell V) (t : ℕ)
       (lt : t < n) where
     -- At a Read-Only record, shape by shape.
-    read_only_good : (I : RecordInvariant n last (home Read-Only v a holders) cells) (s : Shape) → I.shape t ≡ s
-        → allowed Read-Only (holders t) s ≡ true → cells t ≡ decode last s
-        → GoodUp n served limit last (home Read-Only v a holders) cells t (decode last s).up
+    read_only_good : (I : RecordInvariant n last (home read_only v a holders) cells) (s : Shape) → I.shape t ≡ s
+        → allowed read_only (holders t) s ≡ true → cells t ≡ decode last s
+        → GoodUp n served limit last (home read_only v a holders) cells t (decode last s).up
     read_only_good I (idle quiet) e o c = tt
     read_only_good I (idle (asking reading)) e o c =
         read_only_read n served limit last v a wide holders cells I t lt (ap pop_up c)
@@ -43,9 +43,9 @@ module _ {V : Type 0} where
     read_only_good I (dirty x) e o c = clash o
 
     -- At a Read-Write record, shape by shape.
-    read_write_good : (I : RecordInvariant n last (home Read-Write v a holders) cells) (s : Shape) → I.shape t ≡ s
-        → allowed Read-Write (holders t) s ≡ true → cells t ≡ decode last s
-        → GoodUp n served limit last (home Read-Write v a holders) cells t (decode last s).up
+    read_write_good : (I : RecordInvariant n last (home read_write v a holders) cells) (s : Shape) → I.shape t ≡ s
+        → allowed read_write (holders t) s ≡ true → cells t ≡ decode last s
+        → GoodUp n served limit last (home read_write v a holders) cells t (decode last s).up
     read_write_good I (idle quiet) e o c = tt
     read_write_good I (idle (asking k)) e o c =
         read_write_request n served limit last v a wide holders cells I t lt k (not-true (holders t) o) (ap pop_up c)
@@ -100,30 +100,30 @@ module _ {V : Type 0} where
       transaction_good (idle (turned_away j)) e o c = tt
       transaction_good (requester x) e o c = tt
       transaction_good (clean (told b)) e o c = tt
-      transaction_good (clean (told-asking j)) e o c =
-          turn_away (access j) (clean (told-turned-away j)) (clean (told-asking j)) e (ap (λ x. push_down true BUSY (pop_up x)) c)
+      transaction_good (clean (told_asking j)) e o c =
+          turn_away (access j) (clean (told_turned_away j)) (clean (told_asking j)) e (ap (λ x. push_down true BUSY (pop_up x)) c)
           refl (λ h. h)
-      transaction_good (clean (told-turned-away j)) e o c = tt
-      transaction_good (clean data-coming-told) e o c = tt
+      transaction_good (clean (told_turned_away j)) e o c = tt
+      transaction_good (clean data_coming_told) e o c = tt
       transaction_good (clean acked) e o c = takes_ack quiet acked e o (ap pop_up c)
-      transaction_good (clean (asked-acked j)) e o c =
-          turn_away j (clean (acked-turned-away j)) (clean (asked-acked j)) e (ap (λ x. push_down true BUSY (pop_up x)) c) refl (λ h. h)
-      transaction_good (clean (acked-asked j)) e o c = takes_ack (asking j) (acked-asked j) e o (ap pop_up c)
-      transaction_good (clean (acked-turned-away j)) e o c = takes_ack (turned_away j) (acked-turned-away j) e o (ap pop_up c)
+      transaction_good (clean (asked_acked j)) e o c =
+          turn_away j (clean (acked_turned_away j)) (clean (asked_acked j)) e (ap (λ x. push_down true BUSY (pop_up x)) c) refl (λ h. h)
+      transaction_good (clean (acked_asked j)) e o c = takes_ack (asking j) (acked_asked j) e o (ap pop_up c)
+      transaction_good (clean (acked_turned_away j)) e o c = takes_ack (turned_away j) (acked_turned_away j) e o (ap pop_up c)
       transaction_good (dirty (permission_coming_told b)) e o c = tt
-      transaction_good (dirty owning-told) e o c = tt
-      transaction_good (dirty given-back-told) e o c = takes_value (told false) given-back-told e o (ap pop_up c)
+      transaction_good (dirty owning_told) e o c = tt
+      transaction_good (dirty given_back_told) e o c = takes_value (told false) given_back_told e o (ap pop_up c)
       transaction_good (dirty (given_back_asking_told reading)) e o c =
-          takes_value (told-asking to_read) (given_back_asking_told reading) e o (ap pop_up c)
+          takes_value (told_asking to_read) (given_back_asking_told reading) e o (ap pop_up c)
       transaction_good (dirty (given_back_asking_told writing)) e o c =
-          takes_value (told-asking (to_write false)) (given_back_asking_told writing) e o (ap pop_up c)
-      transaction_good (dirty update-sent) e o c = takes_update quiet update-sent e o (ap pop_up c)
-      transaction_good (dirty given-back-acked) e o c = takes_value acked given-back-acked e o (ap pop_up c)
-      transaction_good (dirty (given-back-asked-acked j)) e o c =
-          takes_value (asked-acked j) (given-back-asked-acked j) e o (ap pop_up c)
-      transaction_good (dirty (given-back-acked-asked j)) e o c =
-          takes_value (acked-asked j) (given-back-acked-asked j) e o (ap pop_up c)
-      transaction_good (dirty (update-sent-asked j)) e o c = takes_update (asking j) (update-sent-asked j) e o (ap pop_up c)
+          takes_value (told_asking (to_write false)) (given_back_asking_told writing) e o (ap pop_up c)
+      transaction_good (dirty update_sent) e o c = takes_update quiet update_sent e o (ap pop_up c)
+      transaction_good (dirty given_back_acked) e o c = takes_value acked given_back_acked e o (ap pop_up c)
+      transaction_good (dirty (given_back_asked_acked j)) e o c =
+          takes_value (asked_acked j) (given_back_asked_acked j) e o (ap pop_up c)
+      transaction_good (dirty (given_back_acked_asked j)) e o c =
+          takes_value (acked_asked j) (given_back_acked_asked j) e o (ap pop_up c)
+      transaction_good (dirty (update_sent_asked j)) e o c = takes_update (asking j) (update_sent_asked j) e o (ap pop_up c)
       transaction_good (sharer x) e o c = clash o
       transaction_good (owner x) e o c = clash o
 
@@ -138,9 +138,9 @@ module _ {V : Type 0} where
     where
       go : (ph : Phase) (v : V) (a : ℕ) (holders : ℕ → Bool) (J : RecordInvariant n last (home ph v a holders) cells)
           → GoodUp n served limit last (home ph v a holders) cells t (decode last (J.shape t)).up
-      go Read-Only v a holders J =
+      go read_only v a holders J =
           read_only_good n served limit last v a wide holders cells t lt J (J.shape t) refl (J.fit.each t lt) (J.is t lt)
-      go Read-Write v a holders J =
+      go read_write v a holders J =
           read_write_good n served limit last v a wide holders cells t lt J (J.shape t) refl (J.fit.each t lt) (J.is t lt)
       go (Transaction k) v a holders J =
           transaction_good n served limit last v a wide holders cells t lt k J (J.shape t) refl (J.fit.each t lt) (J.is t lt)

@@ -2,7 +2,7 @@
 use Rattle.std.proofs.Common.{◌≡◌, ℕ, ◌<◌, ◌≤◌, Bool, false, ◌||◌, eqb, ltb, [], sym, refl, ◌∙◌, inl, arith, eq-eqb, eqb-true}
 use borrow.Author.Tests.{eqb-false}
 use Rattle.std.proofs.lemmas.Bool.{or_parts}
-use Rattle.machine.specs.Machine.{reading, writing, no_copy, waits, Msg, REQ, BUSY, INV, DATA, Cell, cell, Read-Only, Read-Write, Transaction, home, same, count, besides, join}
+use Rattle.machine.specs.Machine.{reading, writing, no_copy, waits, Msg, REQ, BUSY, INV, DATA, Cell, cell, read_only, read_write, Transaction, home, same, count, besides, join}
 use Rattle.machine.specs.HomeRules.{after, pop_up, Act, on_read_only}
 use Rattle.machine.specs.Shapes.{kept, to_write, turned_away, data_coming, Shape, idle, sharer, owner, requester, permission_coming}
 use Rattle.machine.specs.Invariant.{owing, RecordInvariant}
@@ -12,7 +12,7 @@ use Rattle.machine.proofs.NewShapes.{CostsLess, mark, put, fit_read_only, fit_re
 module _ {V : Type 0} where
   module _
       (n served limit : ℕ) (last v : V) (a : ℕ) (wide : n ≤ served) (holders : ℕ → Bool) (cells : ℕ → Cell V)
-      (I : RecordInvariant n last (home Read-Only v a holders) cells) (t : ℕ) (lt : t < n) where
+      (I : RecordInvariant n last (home read_only v a holders) cells) (t : ℕ) (lt : t < n) where
     -- What is to be shown of what the home does about a message.
     abbrev Shown : Msg V → Act V → Type 0
     Shown y x = RecordInvariant n last x.next (after t x.to x.msg cells) × CostsLess n y x
@@ -27,7 +27,7 @@ module _ {V : Type 0} where
 
     -- A reader gets the data.
     read_granted : pop_up (cells t) ≡ cell no_copy (waits reading) [] []
-        → RecordInvariant n last (home Read-Only v 0 (join t holders)) (after t (same t) (DATA reading v) cells)
+        → RecordInvariant n last (home read_only v 0 (join t holders)) (after t (same t) (DATA reading v) cells)
     unfolding put
     read_granted e =
         record {
@@ -40,7 +40,7 @@ module _ {V : Type 0} where
 
     -- A reader is turned away where the directory is at its limit.
     read_turned_away : holders t ≡ false → pop_up (cells t) ≡ cell no_copy (waits reading) [] []
-        → RecordInvariant n last (home Read-Only v 0 holders) (after t (same t) BUSY cells)
+        → RecordInvariant n last (home read_only v 0 holders) (after t (same t) BUSY cells)
     unfolding put
     read_turned_away z e =
         record {
@@ -53,7 +53,7 @@ module _ {V : Type 0} where
 
     -- A request to read.
     pub read_only_read : pop_up (cells t) ≡ cell no_copy (waits reading) [] []
-        → Good n served limit last (home Read-Only v a holders) cells t (REQ reading)
+        → Good n served limit last (home read_only v a holders) cells t (REQ reading)
     unfolding on_read_only
     read_only_read e =
         pick
@@ -66,7 +66,7 @@ module _ {V : Type 0} where
 
     -- A writer that finds no other holder gets the permission.
     write_granted : (b : Bool) → pop_up (cells t) ≡ cell (kept last b) (waits writing) [] [] → count (besides t holders) n ≡ 0
-        → RecordInvariant n last (home Read-Write v 0 (same t)) (after t (same t) (DATA writing v) cells)
+        → RecordInvariant n last (home read_write v 0 (same t)) (after t (same t) (DATA writing v) cells)
     unfolding put
     write_granted b e z =
         let h : (u : ℕ) → u < n → besides t holders u ≡ false = count_zero (besides t holders) n z in
@@ -102,7 +102,7 @@ module _ {V : Type 0} where
 
     -- A request to write.
     pub read_only_write : (b : Bool) → pop_up (cells t) ≡ cell (kept last b) (waits writing) [] []
-        → Good n served limit last (home Read-Only v a holders) cells t (REQ writing)
+        → Good n served limit last (home read_only v a holders) cells t (REQ writing)
     unfolding on_read_only
     read_only_write b e =
         pick

@@ -1,6 +1,6 @@
 -- The home's steps at a Read-Write record: a request of another, and the owner's replacement, keep the invariant.
 use Rattle.std.proofs.Common.{◌≡◌, ℕ, ◌<◌, ◌≤◌, Bool, true, false, [], refl, ◌∙◌, inr, arith}
-use Rattle.machine.specs.Machine.{Access, reading, writing, no_copy, waits, REQ, REPM, BUSY, INV, Cell, cell, Read-Only, Read-Write, Transaction, home, same, count, nobody}
+use Rattle.machine.specs.Machine.{Access, reading, writing, no_copy, waits, REQ, REPM, BUSY, INV, Cell, cell, read_only, read_write, Transaction, home, same, count, nobody}
 use Rattle.machine.specs.HomeRules.{after, pop_up, on_read_write}
 use Rattle.machine.specs.Shapes.{bare, Idle, Shape, idle, requester, decode}
 use Rattle.machine.specs.Invariant.{owing, copyless, allowed, Sole, Owed, RecordInvariant}
@@ -21,7 +21,7 @@ bare_allowed writing = (refl, refl, omega arith)
 module _ {V : Type 0} where
   module _
       (n served limit : ℕ) (last v : V) (a : ℕ) (wide : n ≤ served) (holders : ℕ → Bool) (cells : ℕ → Cell V)
-      (I : RecordInvariant n last (home Read-Write v a holders) cells) (t : ℕ) (lt : t < n) where
+      (I : RecordInvariant n last (home read_write v a holders) cells) (t : ℕ) (lt : t < n) where
     -- A request of another: the owner is told to invalidate.
     request_invalidates : (k : Access) → holders t ≡ false → pop_up (cells t) ≡ cell no_copy (waits k) [] []
         → RecordInvariant n last (home (Transaction k) v 1 (same t)) (after t holders INV cells)
@@ -52,7 +52,7 @@ module _ {V : Type 0} where
 
     -- A request.
     pub read_write_request : (k : Access) → holders t ≡ false → pop_up (cells t) ≡ cell no_copy (waits k) [] []
-        → Good n served limit last (home Read-Write v a holders) cells t (REQ k)
+        → Good n served limit last (home read_write v a holders) cells t (REQ k)
     unfolding on_read_write
     read_write_request k z e = (
       _,
@@ -62,7 +62,7 @@ module _ {V : Type 0} where
 
     -- The owner gave the record back: nobody holds it.
     comes_home : (x : Idle) → holders t ≡ true → pop_up (cells t) ≡ decode last (idle x)
-        → RecordInvariant n last (home Read-Only last 0 nobody) (after t nobody BUSY cells)
+        → RecordInvariant n last (home read_only last 0 nobody) (after t nobody BUSY cells)
     unfolding put
     comes_home x z e =
         record {
@@ -75,10 +75,10 @@ module _ {V : Type 0} where
 
     -- A replacement.
     pub read_write_replaced : (x : Idle) → holders t ≡ true → pop_up (cells t) ≡ decode last (idle x)
-        → Good n served limit last (home Read-Write v a holders) cells t (REPM last)
+        → Good n served limit last (home read_write v a holders) cells t (REPM last)
     unfolding on_read_write
     read_write_replaced x z e = (
-      record { next = home Read-Only last 0 nobody; to = nobody; msg = BUSY },
+      record { next = home read_only last 0 nobody; to = nobody; msg = BUSY },
       rw (z, count_inside holders n served wide I.fit.inside, sole_count n holders I.fit.held) refl,
       (comes_home x z e, omega arith),
     )

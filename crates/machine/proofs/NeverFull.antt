@@ -7,7 +7,7 @@ use Rattle.machine.specs.Machine.{Access, reading, writing, Copy, no_copy, reada
 use Rattle.machine.specs.HomeRules.{Act}
 use Rattle.machine.specs.Site.{Mail, mail, mails, Place, empty, shared, owned, Want, rests, wants, Sizes, Site, changed, copy_of}
 use Rattle.machine.specs.Turns.{room_up, Out, out, room, home_step, terminal_step, after_home, after_terminal}
-use Rattle.machine.specs.Calls.{evict, after_asking, miss, read_at, write_at, after_releasing, release_at, checked, Call, read, release, write, home-turn, terminal-turn, step}
+use Rattle.machine.specs.Calls.{evict, after_asking, miss, read_at, write_at, after_releasing, release_at, checked, Call, read, release, write, home_turn, terminal_turn, step}
 use Rattle.machine.specs.Invariant.{Invariant}
 use Rattle.machine.specs.Claims.{Deep}
 use Rattle.machine.proofs.Counts.{clash, same_refl}
@@ -184,12 +184,12 @@ module _ {V : Type 0} where
       step_never_full (write t r v) =
           checked_fine t r (write_at sizes site t r v (copy_of r (site.place t (r % sizes.l))))
           (λ lt rl. write_fine t r v lt rl (copy_of r (site.place t (r % sizes.l))) refl)
-      step_never_full (home-turn t) = go (ltb t sizes.n) refl
+      step_never_full (home_turn t) = go (ltb t sizes.n) refl
         where
           go : (b : Bool) → ltb t sizes.n ≡ b → Fine (home_step sizes site t)
           go true e = home_fine t (ltb-true t sizes.n e) (site.up t) refl
           go false e = home_out_of t e
-      step_never_full (terminal-turn t) = go (ltb t sizes.n) refl
+      step_never_full (terminal_turn t) = go (ltb t sizes.n) refl
         where
           go : (b : Bool) → ltb t sizes.n ≡ b → Fine (terminal_step sizes site t)
           go true e = terminal_fine t (ltb-true t sizes.n e) (site.down t) refl

@@ -2,9 +2,9 @@
 -- of the home is proved by naming the shapes afterwards.
 use Rattle.std.proofs.Common.{◌≡◌, ℕ, ◌*◌, ◌<◌, ◌≤◌, Bool, true, false, cond, sym, refl, ap, ◌∙◌, subst, inl, inr, arith}
 use mathlib.Core.Option.{Option, some}
-use Rattle.machine.specs.Machine.{Msg, Cell, Phase, Read-Only, Read-Write, Transaction, Home, home, same, count}
+use Rattle.machine.specs.Machine.{Msg, Cell, Phase, read_only, read_write, Transaction, Home, home, same, count}
 use Rattle.machine.specs.HomeRules.{after, pop_up, push_down, Act, rule}
-use Rattle.machine.specs.Shapes.{Sharer, holding, asking_again, data_coming, Owner, permission_coming, owning, given_back, given_back_asking, Clean, told, told-asking, data-coming-told, Dirty, permission_coming_told, owning-told, given-back-told, given_back_asking_told, Shape, idle, sharer, owner, requester, clean, dirty, decode}
+use Rattle.machine.specs.Shapes.{Sharer, holding, asking_again, data_coming, Owner, permission_coming, owning, given_back, given_back_asking, Clean, told, told_asking, data_coming_told, Dirty, permission_coming_told, owning_told, given_back_told, given_back_asking_told, Shape, idle, sharer, owner, requester, clean, dirty, decode}
 use Rattle.machine.specs.Invariant.{role, owing, has_value, owing_by, has_value_by, copyless, allowed, allowed_by, Sole, Valued, Fit, RecordInvariant}
 use Rattle.machine.proofs.Counts.{Same, eq, ne, view, same_refl, same_no, count_ext, count_none}
 use Rattle.machine.proofs.Weights.{cost_up, cost_down}
@@ -40,18 +40,18 @@ pub turn : (ph : Phase) (b c : Bool) (s : Shape) → b ≡ c → allowed ph b s 
 turn ph b c s e h = subst (λ x. allowed ph x s ≡ true) e h
 
 -- At a Read-Only record nobody owes.
-pub owes_nothing_read_only : (b : Bool) (s : Shape) → allowed Read-Only b s ≡ true → owing s ≡ false
+pub owes_nothing_read_only : (b : Bool) (s : Shape) → allowed read_only b s ≡ true → owing s ≡ false
 owes_nothing_read_only b s h = grind arith
 
 -- At a Read-Write record nobody owes.
-pub owes_nothing_read_write : (b : Bool) (s : Shape) → allowed Read-Write b s ≡ true → owing s ≡ false
+pub owes_nothing_read_write : (b : Bool) (s : Shape) → allowed read_write b s ≡ true → owing s ≡ false
 owes_nothing_read_write b s h = grind arith
 
 module _ {V : Type 0} where
   -- What it takes to fit a Read-Only entry.
   pub fit_read_only : (n : ℕ) (last v : V) (p : ℕ → Bool) (f : ℕ → Shape)
-      → ((u : ℕ) → u < n → allowed Read-Only (p u) (f u) ≡ true) → ((u : ℕ) → n ≤ u → p u ≡ false) → v ≡ last
-      → Fit n last (home Read-Only v 0 p) f
+      → ((u : ℕ) → u < n → allowed read_only (p u) (f u) ≡ true) → ((u : ℕ) → n ≤ u → p u ≡ false) → v ≡ last
+      → Fit n last (home read_only v 0 p) f
   fit_read_only n last v p f each ins e =
       record {
         each = each;
@@ -64,8 +64,8 @@ module _ {V : Type 0} where
 
   -- What it takes to fit a Read-Write entry.
   pub fit_read_write : (n : ℕ) (last v : V) (p : ℕ → Bool) (f : ℕ → Shape)
-      → ((u : ℕ) → u < n → allowed Read-Write (p u) (f u) ≡ true) → ((u : ℕ) → n ≤ u → p u ≡ false) → Sole n p
-      → Fit n last (home Read-Write v 0 p) f
+      → ((u : ℕ) → u < n → allowed read_write (p u) (f u) ≡ true) → ((u : ℕ) → n ≤ u → p u ≡ false) → Sole n p
+      → Fit n last (home read_write v 0 p) f
   fit_read_write n last v p f each ins sole =
       record {
         each = each;
@@ -96,8 +96,8 @@ module _ {V : Type 0} where
       }
     where
       go : (ph : Phase) → Valued ph n v last a f → Valued ph n v last a (put t s f)
-      go Read-Only h = h
-      go Read-Write h = tt
+      go read_only h = h
+      go read_write h = tt
       go (Transaction k) (inl h) =
           inl (h.0, put_all (λ u x. has_value x ≡ false) n t s f (ap has_value_by same-role ∙ h.1 t lt) (λ u l d. h.1 u l))
       go (Transaction k) (inr h) =
@@ -144,14 +144,14 @@ module _ {V : Type 0} where
 -- What an invalidation makes of a sharer.
 abbrev pub sharer_told : Sharer → Clean
 sharer_told (holding b) = told b
-sharer_told (asking_again a) = told-asking a
-sharer_told data_coming = data-coming-told
+sharer_told (asking_again a) = told_asking a
+sharer_told data_coming = data_coming_told
 
 -- What an invalidation makes of an owner.
 abbrev pub owner_told : Owner → Dirty
 owner_told (permission_coming b) = permission_coming_told b
-owner_told owning = owning-told
-owner_told given_back = given-back-told
+owner_told owning = owning_told
+owner_told given_back = given_back_told
 owner_told (given_back_asking k) = given_back_asking_told k
 
 -- What an invalidation makes of a shape.

@@ -9,7 +9,7 @@ use Rattle.machine.specs.TerminalRules.{Took}
 use Rattle.machine.specs.Turns.{room_up, Out, out, room, home_step, terminal_step, after_home, after_terminal}
 use Rattle.machine.specs.Calls.{step}
 use Rattle.machine.specs.Invariant.{PlaceFree, Invariant}
-use Rattle.machine.specs.Claims.{is_waiting, Step, by_Home, by-terminal, call_of, accepted}
+use Rattle.machine.specs.Claims.{is_waiting, Step, by_home, by_terminal, call_of, accepted}
 use Rattle.machine.proofs.Sums.{total_ext, total_add, total_changed, total_count}
 use Rattle.machine.proofs.Weights.{load, load-++, load_mails, cost_up, cost_down}
 use Rattle.machine.proofs.NewShapes.{CostsLess}
@@ -148,12 +148,12 @@ module _ {V : Type 0} where
     -- Each step.
     step_falls : (s : Step) → FallsTo (step sizes site (call_of s))
     unfolding step
-    step_falls (by_Home t) = go (ltb t sizes.n) refl
+    step_falls (by_home t) = go (ltb t sizes.n) refl
       where
         go : (b : Bool) → ltb t sizes.n ≡ b → FallsTo (home_step sizes site t)
         go true e = home_falls t (ltb-true t sizes.n e) (site.up t) refl
         go false e = home_out_of t e
-    step_falls (by-terminal t) = go (ltb t sizes.n) refl
+    step_falls (by_terminal t) = go (ltb t sizes.n) refl
       where
         go : (b : Bool) → ltb t sizes.n ≡ b → FallsTo (terminal_step sizes site t)
         go true e = terminal_falls t (ltb-true t sizes.n e) (site.down t) refl

@@ -1,11 +1,11 @@
 -- The potential is at most 2 n for each terminal that waits and 1 for each replacement on its way. Who waits pays for the
 -- acknowledgements of the others, and a transaction is owed fewer than n.
 use Rattle.std.proofs.Common.{◌≡◌, ℕ, ◌+◌, ◌-◌, ◌*◌, ◌<◌, ◌≤◌, Bool, true, false, cond, List, [], ◌∷◌, sym, refl, ap, ◌∙◌, subst, arith}
-use Rattle.machine.specs.Machine.{Access, Cell, Phase, Read-Only, Read-Write, Transaction, Home, home, count}
+use Rattle.machine.specs.Machine.{Access, Cell, Phase, read_only, read_write, Transaction, Home, home, count}
 use Rattle.machine.specs.HomeRules.{one_replacement}
 use Rattle.machine.specs.Site.{Mail, Sizes, Site, messages_about, wait_of, projection, total}
 use Rattle.machine.specs.Shapes.{Shape, idle, sharer, owner, requester, clean, dirty, decode}
-use Rattle.machine.specs.Invariant.{Role, idles, shares, owns, requests, owes-clean, owes-dirty, role, owing, allowed, Fit, RecordInvariant, Invariant}
+use Rattle.machine.specs.Invariant.{Role, idles, shares, owns, requests, owes_clean, owes_dirty, role, owing, allowed, Fit, RecordInvariant, Invariant}
 use Rattle.machine.specs.Claims.{is_waiting, lane_replacements, waiters, replacements}
 use Rattle.machine.proofs.Counts.{count_less, same_refl, clash}
 use Rattle.machine.proofs.Sums.{total_ext, total_le, total_add, total_mul, total_count, total_point, total_swap}
@@ -20,8 +20,8 @@ is_requesting idles = false
 is_requesting shares = false
 is_requesting owns = false
 is_requesting (requests k) = true
-is_requesting owes-clean = false
-is_requesting owes-dirty = false
+is_requesting owes_clean = false
+is_requesting owes_dirty = false
 
 -- What is left of a requester's 2 n for the acknowledgements of the others.
 abbrev allowance : ℕ → Shape → ℕ
@@ -46,8 +46,8 @@ module _ {V : Type 0} where
     -- A requester has that left for all that is owed.
     owed_fits : (ph : Phase) (v : V) (a : ℕ) (p : ℕ → Bool) → (F : Fit n last (home ph v a p) I.shape)
         → 2 * count (λ u. owing (I.shape u)) n ≤ total (λ u. allowance n (I.shape u)) n
-    owed_fits Read-Only v a p F = omega (arith, F.counts, F.owed)
-    owed_fits Read-Write v a p F = omega (arith, F.counts, F.owed)
+    owed_fits read_only v a p F = omega (arith, F.counts, F.owed)
+    owed_fits read_write v a p F = omega (arith, F.counts, F.owed)
     owed_fits (Transaction k) v a p F =
         let h : ℕ = F.held.0 in
         let e : allowed (Transaction k) true (I.shape h) ≡ true

@@ -7,7 +7,7 @@ use Rattle.std.proofs.lemmas.Bool.{cond_both}
 use Rattle.machine.specs.Machine.{Access, reading, writing, Copy, no_copy, readable, writable, same}
 use Rattle.machine.specs.Site.{Mail, Want, rests, wants, Sizes, Site, copy_of}
 use Rattle.machine.specs.Turns.{room_up, Out, out, room, home_lane, home_step, terminal_lane, terminal_step, after_home, after_terminal}
-use Rattle.machine.specs.Calls.{evict, after_asking, miss, read_at, write_at, after_releasing, release_at, checked, Call, read, release, write, home-turn, terminal-turn, step, effect}
+use Rattle.machine.specs.Calls.{evict, after_asking, miss, read_at, write_at, after_releasing, release_at, checked, Call, read, release, write, home_turn, terminal_turn, step, effect}
 use Rattle.machine.specs.Invariant.{RecordsBelow, Invariant}
 use Rattle.machine.proofs.TerminalAsks.{may_ask}
 use Rattle.machine.proofs.Writing.{is_writable}
@@ -121,9 +121,9 @@ module _ {V : Type 0} where
     step_kept (write t r v) =
         checked_kept (Wrote t r v) t r (write_at sizes site t r v (copy_of r (site.place t (r % sizes.l)))) (refused_write t r v)
         (λ lt rl. write_kept t r v lt rl (copy_of r (site.place t (r % sizes.l))) refl)
-    step_kept (home-turn t) =
+    step_kept (home_turn t) =
         cond_both (ltb t sizes.n) (home_lane sizes site t (site.up t)) (out site 7 none) Kept
         (λ a. home_kept t (ltb-true t sizes.n a) (site.up t) refl) (λ _. I)
-    step_kept (terminal-turn t) =
+    step_kept (terminal_turn t) =
         cond_both (ltb t sizes.n) (terminal_lane sizes site t (site.down t)) (out site 7 none) Kept
         (λ a. terminal_kept t (ltb-true t sizes.n a) (site.down t) refl) (λ _. I)

@@ -2,7 +2,7 @@
 -- part in what the home is at, so the home's entry need not change.
 use Rattle.std.proofs.Common.{◌≡◌, Bool, true, false, ◌&&◌, [], ◌∷◌, ◌++◌, refl, arith}
 use Rattle.machine.specs.Machine.{Access, reading, writing, Copy, no_copy, readable, writable, Wait, still, waits, REQ, REPM, Cell, cell}
-use Rattle.machine.specs.Shapes.{Ask, to_read, to_write, quiet, asking, turned_away, holding, asking_again, data_coming, permission_coming, owning, given_back, given_back_asking, told, told-asking, told-turned-away, data-coming-told, acked, asked-acked, acked-asked, acked-turned-away, permission_coming_told, owning-told, given-back-told, given_back_asking_told, update-sent, given-back-acked, given-back-asked-acked, given-back-acked-asked, update-sent-asked, Shape, idle, sharer, owner, requester, clean, dirty, decode}
+use Rattle.machine.specs.Shapes.{Ask, to_read, to_write, quiet, asking, turned_away, holding, asking_again, data_coming, permission_coming, owning, given_back, given_back_asking, told, told_asking, told_turned_away, data_coming_told, acked, asked_acked, acked_asked, acked_turned_away, permission_coming_told, owning_told, given_back_told, given_back_asking_told, update_sent, given_back_acked, given_back_asked_acked, given_back_acked_asked, update_sent_asked, Shape, idle, sharer, owner, requester, clean, dirty, decode}
 use Rattle.machine.specs.Invariant.{role, copyless}
 use Rattle.machine.proofs.Counts.{clash}
 
@@ -51,25 +51,25 @@ module _ {V : Type 0} where
   ask_good v k (owner (given_back_asking j)) h = clash h
   ask_good v k (requester a) h = clash h
   ask_good v reading (clean (told true)) h = clash h
-  ask_good v reading (clean (told false)) h = (clean (told-asking to_read), refl, refl, λ y. y)
-  ask_good v writing (clean (told b)) h = (clean (told-asking (to_write b)), refl, refl, λ y. y)
-  ask_good v k (clean (told-asking a)) h = clash h
-  ask_good v k (clean (told-turned-away a)) h = clash h
-  ask_good v k (clean data-coming-told) h = clash h
-  ask_good v k (clean acked) h = (clean (acked-asked k), refl, refl, λ y. y)
-  ask_good v k (clean (asked-acked j)) h = clash h
-  ask_good v k (clean (acked-asked j)) h = clash h
-  ask_good v k (clean (acked-turned-away j)) h = clash h
+  ask_good v reading (clean (told false)) h = (clean (told_asking to_read), refl, refl, λ y. y)
+  ask_good v writing (clean (told b)) h = (clean (told_asking (to_write b)), refl, refl, λ y. y)
+  ask_good v k (clean (told_asking a)) h = clash h
+  ask_good v k (clean (told_turned_away a)) h = clash h
+  ask_good v k (clean data_coming_told) h = clash h
+  ask_good v k (clean acked) h = (clean (acked_asked k), refl, refl, λ y. y)
+  ask_good v k (clean (asked_acked j)) h = clash h
+  ask_good v k (clean (acked_asked j)) h = clash h
+  ask_good v k (clean (acked_turned_away j)) h = clash h
   ask_good v k (dirty (permission_coming_told b)) h = clash h
-  ask_good v reading (dirty owning-told) h = clash h
-  ask_good v writing (dirty owning-told) h = clash h
-  ask_good v k (dirty given-back-told) h = (dirty (given_back_asking_told k), refl, refl, λ y. y)
+  ask_good v reading (dirty owning_told) h = clash h
+  ask_good v writing (dirty owning_told) h = clash h
+  ask_good v k (dirty given_back_told) h = (dirty (given_back_asking_told k), refl, refl, λ y. y)
   ask_good v k (dirty (given_back_asking_told j)) h = clash h
-  ask_good v k (dirty update-sent) h = (dirty (update-sent-asked k), refl, refl, λ y. y)
-  ask_good v k (dirty given-back-acked) h = (dirty (given-back-acked-asked k), refl, refl, λ y. y)
-  ask_good v k (dirty (given-back-asked-acked j)) h = clash h
-  ask_good v k (dirty (given-back-acked-asked j)) h = clash h
-  ask_good v k (dirty (update-sent-asked j)) h = clash h
+  ask_good v k (dirty update_sent) h = (dirty (update_sent_asked k), refl, refl, λ y. y)
+  ask_good v k (dirty given_back_acked) h = (dirty (given_back_acked_asked k), refl, refl, λ y. y)
+  ask_good v k (dirty (given_back_asked_acked j)) h = clash h
+  ask_good v k (dirty (given_back_acked_asked j)) h = clash h
+  ask_good v k (dirty (update_sent_asked j)) h = clash h
 
   -- The copy goes: a readable one silently, a writable one as a replacement.
   abbrev pub gone : Copy V → Cell V → Cell V
@@ -94,22 +94,22 @@ shape_gone (owner given_back) = owner given_back
 shape_gone (owner (given_back_asking k)) = owner (given_back_asking k)
 shape_gone (requester a) = requester (without a)
 shape_gone (clean (told b)) = clean (told false)
-shape_gone (clean (told-asking a)) = clean (told-asking (without a))
-shape_gone (clean (told-turned-away a)) = clean (told-turned-away (without a))
-shape_gone (clean data-coming-told) = clean data-coming-told
+shape_gone (clean (told_asking a)) = clean (told_asking (without a))
+shape_gone (clean (told_turned_away a)) = clean (told_turned_away (without a))
+shape_gone (clean data_coming_told) = clean data_coming_told
 shape_gone (clean acked) = clean acked
-shape_gone (clean (asked-acked k)) = clean (asked-acked k)
-shape_gone (clean (acked-asked k)) = clean (acked-asked k)
-shape_gone (clean (acked-turned-away k)) = clean (acked-turned-away k)
+shape_gone (clean (asked_acked k)) = clean (asked_acked k)
+shape_gone (clean (acked_asked k)) = clean (acked_asked k)
+shape_gone (clean (acked_turned_away k)) = clean (acked_turned_away k)
 shape_gone (dirty (permission_coming_told b)) = dirty (permission_coming_told false)
-shape_gone (dirty owning-told) = dirty given-back-told
-shape_gone (dirty given-back-told) = dirty given-back-told
+shape_gone (dirty owning_told) = dirty given_back_told
+shape_gone (dirty given_back_told) = dirty given_back_told
 shape_gone (dirty (given_back_asking_told k)) = dirty (given_back_asking_told k)
-shape_gone (dirty update-sent) = dirty update-sent
-shape_gone (dirty given-back-acked) = dirty given-back-acked
-shape_gone (dirty (given-back-asked-acked k)) = dirty (given-back-asked-acked k)
-shape_gone (dirty (given-back-acked-asked k)) = dirty (given-back-acked-asked k)
-shape_gone (dirty (update-sent-asked k)) = dirty (update-sent-asked k)
+shape_gone (dirty update_sent) = dirty update_sent
+shape_gone (dirty given_back_acked) = dirty given_back_acked
+shape_gone (dirty (given_back_asked_acked k)) = dirty (given_back_asked_acked k)
+shape_gone (dirty (given_back_acked_asked k)) = dirty (given_back_acked_asked k)
+shape_gone (dirty (update_sent_asked k)) = dirty (update_sent_asked k)
 
 module _ {V : Type 0} where
   -- Letting the copy go.

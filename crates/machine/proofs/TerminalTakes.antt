@@ -5,7 +5,7 @@ use mathlib.Core.Option.{some}
 use Rattle.machine.specs.Machine.{reading, writing, no_copy, Wait, still, waits, Msg, INV, Cell, cell}
 use Rattle.machine.specs.HomeRules.{rest}
 use Rattle.machine.specs.TerminalRules.{Took, receive, on_data, on_inv, on_busy}
-use Rattle.machine.specs.Shapes.{to_read, to_write, quiet, asking, turned_away, holding, asking_again, data_coming, permission_coming, owning, given_back, given_back_asking, told, told-asking, told-turned-away, data-coming-told, acked, asked-acked, acked-asked, acked-turned-away, permission_coming_told, owning-told, given-back-told, given_back_asking_told, update-sent, given-back-acked, given-back-asked-acked, given-back-acked-asked, update-sent-asked, Shape, idle, sharer, owner, requester, clean, dirty, decode}
+use Rattle.machine.specs.Shapes.{to_read, to_write, quiet, asking, turned_away, holding, asking_again, data_coming, permission_coming, owning, given_back, given_back_asking, told, told_asking, told_turned_away, data_coming_told, acked, asked_acked, acked_asked, acked_turned_away, permission_coming_told, owning_told, given_back_told, given_back_asking_told, update_sent, given_back_acked, given_back_asked_acked, given_back_acked_asked, update_sent_asked, Shape, idle, sharer, owner, requester, clean, dirty, decode}
 use Rattle.machine.proofs.Weights.{weigh, cost_up, cost_down}
 use Rattle.machine.proofs.TerminalAsks.{Moved}
 
@@ -59,34 +59,34 @@ module _ {V : Type 0} where
   take_good v (requester a) = tt
   take_good v (clean (told true)) = (_, refl, inr (refl, refl, refl), (clean acked, refl, refl, λ y. y), λ n. omega arith)
   take_good v (clean (told false)) = (_, refl, inr (refl, refl, refl), (clean acked, refl, refl, λ y. y), λ n. omega arith)
-  take_good v (clean (told-asking to_read)) =
-      (_, refl, inr (refl, refl, refl), (clean (asked-acked reading), refl, refl, λ y. y), λ n. omega arith)
-  take_good v (clean (told-asking (to_write true))) =
-      (_, refl, inr (refl, refl, refl), (clean (asked-acked writing), refl, refl, λ y. y), λ n. omega arith)
-  take_good v (clean (told-asking (to_write false))) =
-      (_, refl, inr (refl, refl, refl), (clean (asked-acked writing), refl, refl, λ y. y), λ n. omega arith)
-  take_good v (clean (told-turned-away to_read)) =
-      (_, refl, inr (refl, refl, refl), (clean (acked-turned-away reading), refl, refl, λ y. y), λ n. omega arith)
-  take_good v (clean (told-turned-away (to_write true))) =
-      (_, refl, inr (refl, refl, refl), (clean (acked-turned-away writing), refl, refl, λ y. y), λ n. omega arith)
-  take_good v (clean (told-turned-away (to_write false))) =
-      (_, refl, inr (refl, refl, refl), (clean (acked-turned-away writing), refl, refl, λ y. y), λ n. omega arith)
-  take_good v (clean data-coming-told) = (_, refl, inl (refl, refl), (clean (told true), refl, refl, λ y. y), λ n. omega arith)
+  take_good v (clean (told_asking to_read)) =
+      (_, refl, inr (refl, refl, refl), (clean (asked_acked reading), refl, refl, λ y. y), λ n. omega arith)
+  take_good v (clean (told_asking (to_write true))) =
+      (_, refl, inr (refl, refl, refl), (clean (asked_acked writing), refl, refl, λ y. y), λ n. omega arith)
+  take_good v (clean (told_asking (to_write false))) =
+      (_, refl, inr (refl, refl, refl), (clean (asked_acked writing), refl, refl, λ y. y), λ n. omega arith)
+  take_good v (clean (told_turned_away to_read)) =
+      (_, refl, inr (refl, refl, refl), (clean (acked_turned_away reading), refl, refl, λ y. y), λ n. omega arith)
+  take_good v (clean (told_turned_away (to_write true))) =
+      (_, refl, inr (refl, refl, refl), (clean (acked_turned_away writing), refl, refl, λ y. y), λ n. omega arith)
+  take_good v (clean (told_turned_away (to_write false))) =
+      (_, refl, inr (refl, refl, refl), (clean (acked_turned_away writing), refl, refl, λ y. y), λ n. omega arith)
+  take_good v (clean data_coming_told) = (_, refl, inl (refl, refl), (clean (told true), refl, refl, λ y. y), λ n. omega arith)
   take_good v (clean acked) = tt
-  take_good v (clean (asked-acked k)) = tt
-  take_good v (clean (acked-asked k)) = tt
-  take_good v (clean (acked-turned-away k)) = (_, refl, inl (refl, refl), (clean acked, refl, refl, λ y. y), λ n. omega arith)
+  take_good v (clean (asked_acked k)) = tt
+  take_good v (clean (acked_asked k)) = tt
+  take_good v (clean (acked_turned_away k)) = (_, refl, inl (refl, refl), (clean acked, refl, refl, λ y. y), λ n. omega arith)
   take_good v (dirty (permission_coming_told true)) =
-      (_, refl, inl (refl, refl), (dirty owning-told, refl, refl, λ y. y), λ n. omega arith)
+      (_, refl, inl (refl, refl), (dirty owning_told, refl, refl, λ y. y), λ n. omega arith)
   take_good v (dirty (permission_coming_told false)) =
-      (_, refl, inl (refl, refl), (dirty owning-told, refl, refl, λ y. y), λ n. omega arith)
-  take_good v (dirty owning-told) = (_, refl, inr (refl, refl, refl), (dirty update-sent, refl, refl, λ y. y), λ n. omega arith)
-  take_good v (dirty given-back-told) =
-      (_, refl, inr (refl, refl, refl), (dirty given-back-acked, refl, refl, λ y. y), λ n. omega arith)
+      (_, refl, inl (refl, refl), (dirty owning_told, refl, refl, λ y. y), λ n. omega arith)
+  take_good v (dirty owning_told) = (_, refl, inr (refl, refl, refl), (dirty update_sent, refl, refl, λ y. y), λ n. omega arith)
+  take_good v (dirty given_back_told) =
+      (_, refl, inr (refl, refl, refl), (dirty given_back_acked, refl, refl, λ y. y), λ n. omega arith)
   take_good v (dirty (given_back_asking_told k)) =
-      (_, refl, inr (refl, refl, refl), (dirty (given-back-asked-acked k), refl, refl, λ y. y), λ n. omega arith)
-  take_good v (dirty update-sent) = tt
-  take_good v (dirty given-back-acked) = tt
-  take_good v (dirty (given-back-asked-acked k)) = tt
-  take_good v (dirty (given-back-acked-asked k)) = tt
-  take_good v (dirty (update-sent-asked k)) = tt
+      (_, refl, inr (refl, refl, refl), (dirty (given_back_asked_acked k), refl, refl, λ y. y), λ n. omega arith)
+  take_good v (dirty update_sent) = tt
+  take_good v (dirty given_back_acked) = tt
+  take_good v (dirty (given_back_asked_acked k)) = tt
+  take_good v (dirty (given_back_acked_asked k)) = tt
+  take_good v (dirty (update_sent_asked k)) = tt

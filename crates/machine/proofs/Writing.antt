@@ -1,8 +1,8 @@
 -- A write in place: while a terminal has a copy that may be written, nobody else has a copy or a value, so the value of the
 -- record is that terminal's to change. Exclusion rests on this.
 use Rattle.std.proofs.Common.{◌≡◌, ℕ, ◌<◌, Bool, true, false, ◌⊎◌, sym, refl, ap, ◌∙◌, subst, inl, inr, arith}
-use Rattle.machine.specs.Machine.{Access, Copy, no_copy, readable, writable, Cell, cell, Phase, Read-Only, Read-Write, Transaction, Home, home, same}
-use Rattle.machine.specs.Shapes.{owning, owning-told, Shape, owner, dirty, decode}
+use Rattle.machine.specs.Machine.{Access, Copy, no_copy, readable, writable, Cell, cell, Phase, read_only, read_write, Transaction, Home, home, same}
+use Rattle.machine.specs.Shapes.{owning, owning_told, Shape, owner, dirty, decode}
 use Rattle.machine.specs.Invariant.{owing, has_value, copyless, allowed, Settled, Valued, RecordInvariant}
 use Rattle.machine.proofs.Counts.{Same, eq, ne, view, same_no, same_true, clash}
 use Rattle.machine.proofs.NewShapes.{turn}
@@ -16,11 +16,11 @@ module _ {V : Type 0} where
   is_writable (writable v) = true
 
   -- Two shapes have a copy that may be written.
-  pub writers : (v : V) (s : Shape) → is_writable (decode v s).copy ≡ true → (s ≡ owner owning) ⊎ (s ≡ dirty owning-told)
+  pub writers : (v : V) (s : Shape) → is_writable (decode v s).copy ≡ true → (s ≡ owner owning) ⊎ (s ≡ dirty owning_told)
   writers v s h = grind arith
 
   -- Idle shapes have no copy and no value.
-  idle_plain : (v w : V) (s : Shape) → allowed Read-Write false s ≡ true
+  idle_plain : (v w : V) (s : Shape) → allowed read_write false s ≡ true
       → (decode v s ≡ decode w s) × ((decode v s).copy ≡ no_copy)
   idle_plain v w s h = grind arith
 
@@ -39,12 +39,12 @@ module _ {V : Type 0} where
     -- While an owner may write.
     alone_owning : (ph : Phase) (I : RecordInvariant n last (home ph v a p) cells) → I.shape t ≡ owner owning
         → OthersEmpty ph I.shape
-    alone_owning Read-Only I e = clash (subst (λ s. allowed Read-Only (p t) s ≡ true) e (I.fit.each t lt))
+    alone_owning read_only I e = clash (subst (λ s. allowed read_only (p t) s ≡ true) e (I.fit.each t lt))
     alone_owning (Transaction k) I e = clash (subst (λ s. allowed (Transaction k) (p t) s ≡ true) e (I.fit.each t lt))
-    alone_owning Read-Write I e = (
+    alone_owning read_write I e = (
       λ u l d.
           idle_plain last w (I.shape u)
-          (turn Read-Write (p u) false (I.shape u) (I.fit.held.2 u l ∙ same_no I.fit.held.0 u (λ c. d (sym at_t ∙ c)))
+          (turn read_write (p u) false (I.shape u) (I.fit.held.2 u l ∙ same_no I.fit.held.0 u (λ c. d (sym at_t ∙ c)))
           (I.fit.each u l)),
       tt,
     )
@@ -52,13 +52,13 @@ module _ {V : Type 0} where
         at_t : I.fit.held.0 ≡ t
         at_t =
             same_true I.fit.held.0 t
-            (sym (I.fit.held.2 t lt) ∙ subst (λ s. allowed Read-Write (p t) s ≡ true) e (I.fit.each t lt))
+            (sym (I.fit.held.2 t lt) ∙ subst (λ s. allowed read_write (p t) s ≡ true) e (I.fit.each t lt))
 
     -- While an owner that was told to invalidate may still write.
-    alone_dirty : (ph : Phase) (I : RecordInvariant n last (home ph v a p) cells) → I.shape t ≡ dirty owning-told
+    alone_dirty : (ph : Phase) (I : RecordInvariant n last (home ph v a p) cells) → I.shape t ≡ dirty owning_told
         → OthersEmpty ph I.shape
-    alone_dirty Read-Only I e = clash (subst (λ s. allowed Read-Only (p t) s ≡ true) e (I.fit.each t lt))
-    alone_dirty Read-Write I e = clash (subst (λ s. allowed Read-Write (p t) s ≡ true) e (I.fit.each t lt))
+    alone_dirty read_only I e = clash (subst (λ s. allowed read_only (p t) s ≡ true) e (I.fit.each t lt))
+    alone_dirty read_write I e = clash (subst (λ s. allowed read_write (p t) s ≡ true) e (I.fit.each t lt))
     alone_dirty (Transaction k) I e = go I.fit.valued
       where
         go : Settled n v last a I.shape → OthersEmpty (Transaction k) I.shape
@@ -72,7 +72,7 @@ module _ {V : Type 0} where
 
     -- In both cases.
     others_empty : (ph : Phase) (I : RecordInvariant n last (home ph v a p) cells)
-        → (I.shape t ≡ owner owning) ⊎ (I.shape t ≡ dirty owning-told) → OthersEmpty ph I.shape
+        → (I.shape t ≡ owner owning) ⊎ (I.shape t ≡ dirty owning_told) → OthersEmpty ph I.shape
     others_empty ph I (inl e) = alone_owning ph I e
     others_empty ph I (inr e) = alone_dirty ph I e
 
@@ -86,7 +86,7 @@ module _ {V : Type 0} where
       (writers last (I.shape t) (subst (λ c. is_writable c.copy ≡ true) (I.is t lt) h))
 
   -- The writer's cell after the write.
-  wrote : (v w : V) (s : Shape) → (s ≡ owner owning) ⊎ (s ≡ dirty owning-told)
+  wrote : (v w : V) (s : Shape) → (s ≡ owner owning) ⊎ (s ≡ dirty owning_told)
       → cell (writable w) (decode v s).wait (decode v s).up (decode v s).down ≡ decode w s
   wrote v w s (inl e) = rw e refl
   wrote v w s (inr e) = rw e refl

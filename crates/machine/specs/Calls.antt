@@ -91,7 +91,7 @@ module _ {V : Type 0} where
 pub data Call (V : Type 0) : Type 0 where
   read release : ℕ → ℕ → Call V
   write : ℕ → ℕ → V → Call V
-  home-turn terminal-turn : ℕ → Call V
+  home_turn terminal_turn : ℕ → Call V
 
 module _ {V : Type 0} where
   -- The terminal and then the record must be there.
@@ -107,13 +107,13 @@ module _ {V : Type 0} where
       checked sizes site t r (release_at sizes site t r (copy_of r (site.place t (r % sizes.l))))
   step sizes site (write t r v) =
       checked sizes site t r (write_at sizes site t r v (copy_of r (site.place t (r % sizes.l))))
-  step sizes site (home-turn t) = home_step sizes site t
-  step sizes site (terminal-turn t) = terminal_step sizes site t
+  step sizes site (home_turn t) = home_step sizes site t
+  step sizes site (terminal_turn t) = terminal_step sizes site t
 
   -- The last value written to each record, after a call with this code: a write with code 0 sets that of its record.
   abbrev pub effect : Call V → ℕ → (ℕ → V) → ℕ → V
   effect (read t r) code last = last
   effect (release t r) code last = last
   effect (write t r v) code last = λ x. cond (code == 0 && same r x) v (last x)
-  effect (home-turn t) code last = last
-  effect (terminal-turn t) code last = last
+  effect (home_turn t) code last = last
+  effect (terminal_turn t) code last = last

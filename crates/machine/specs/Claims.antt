@@ -1,15 +1,15 @@
 -- The words in which the machine's laws are stated: how a site opens, which steps are accepted, and when all is at rest.
 use Rattle.std.specs.Prelude.{◌≡◌, ℕ, ◌+◌, ◌*◌, ◌%◌, ◌<◌, ◌≤◌, Bool, true, false, cond, List, [], ◌∷◌, ◌==◌, ◌≢◌}
-use Rattle.machine.specs.Machine.{Copy, reading, writing, Phase, Read-Only, Read-Write, Transaction, home, nobody, count}
+use Rattle.machine.specs.Machine.{Copy, reading, writing, Phase, read_only, read_write, Transaction, home, nobody, count}
 use Rattle.machine.specs.HomeRules.{one_replacement}
 use Rattle.machine.specs.Site.{Mail, empty, Want, rests, wants, Sizes, Site, copy_of, total}
-use Rattle.machine.specs.Calls.{Call, home-turn, terminal-turn, step}
+use Rattle.machine.specs.Calls.{Call, home_turn, terminal_turn, step}
 
 module _ {V : Type 0} where
   -- A newly opened site: every record is Read-Only with its opening value and no holder; nothing is copied, waits or is sent.
   pub record Opened (sizes : Sizes) (site : Site V) (opening : ℕ → V) : Type 0 where
     pub wide : sizes.n ≤ sizes.served
-    pub homes : (r : ℕ) → r < sizes.b → site.homes r ≡ home Read-Only (opening r) 0 nobody
+    pub homes : (r : ℕ) → r < sizes.b → site.homes r ≡ home read_only (opening r) 0 nobody
     pub places : (t p : ℕ) → t < sizes.n → site.place t p ≡ empty
     pub waits : (t : ℕ) → t < sizes.n → site.wait t ≡ rests
     pub ups : (t : ℕ) → t < sizes.n → site.up t ≡ []
@@ -25,13 +25,13 @@ Deep sizes = (2 * sizes.b + 1 ≤ sizes.up_depth) × (sizes.b + 1 ≤ sizes.down
 
 -- A turn of the home at a terminal's lane, or of a terminal at its own.
 pub data Step : Type 0 where
-  by_Home by-terminal : ℕ → Step
+  by_home by_terminal : ℕ → Step
 
 module _ {V : Type 0} where
   -- The call that a step is.
   abbrev pub call_of : Step → Call V
-  call_of (by_Home t) = home-turn t
-  call_of (by-terminal t) = terminal-turn t
+  call_of (by_home t) = home_turn t
+  call_of (by_terminal t) = terminal_turn t
 
   -- How many of a list of steps are accepted.
   unfoldable pub accepted : Sizes → Site V → List Step → ℕ
@@ -68,7 +68,7 @@ module _ {V : Type 0} where
 
 -- A legal count of acknowledgements: none outside transactions, one in a transaction to read, 1 to n - 1 in one to write.
 abbrev pub Legal : ℕ → Phase → ℕ → Type 0
-Legal n Read-Only acks = acks ≡ 0
-Legal n Read-Write acks = acks ≡ 0
+Legal n read_only acks = acks ≡ 0
+Legal n read_write acks = acks ≡ 0
 Legal n (Transaction reading) acks = acks ≡ 1
 Legal n (Transaction writing) acks = (1 ≤ acks) × (acks < n)

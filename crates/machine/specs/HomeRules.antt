@@ -1,7 +1,7 @@
 -- What the home does about a message: its rules, state by state, and the cells after it acted.
 use Rattle.std.specs.Prelude.{ℕ, ◌-◌, Bool, true, false, cond, not, ◌&&◌, ◌||◌, List, [], ◌∷◌, ◌++◌, ◌==◌, nat_lt}
 use Rattle.std.proofs.Math.Option.{Option, none, some}
-use Rattle.machine.specs.Machine.{Access, reading, writing, Msg, REQ, REPM, UPDATE, ACKC, INV, BUSY, DATA, Cell, cell, Phase, Read-Only, Read-Write, Transaction, Home, home, same, count, nobody, besides, join}
+use Rattle.machine.specs.Machine.{Access, reading, writing, Msg, REQ, REPM, UPDATE, ACKC, INV, BUSY, DATA, Cell, cell, Phase, read_only, read_write, Transaction, Home, home, same, count, nobody, besides, join}
 
 -- What the home does: its entry afterwards, and one message to each terminal of a set.
 pub record Act (V : Type 0) : Type 0 where
@@ -16,8 +16,8 @@ module _ {V : Type 0} where
 
 -- The state that a transaction ends in.
 abbrev pub granted : Access → Phase
-granted reading = Read-Only
-granted writing = Read-Write
+granted reading = read_only
+granted writing = read_write
 
 -- Whether a transaction may be owed more than one acknowledgement: one for a write may, one for a read has had one owner.
 abbrev pub many_acks : Access → Bool
@@ -40,12 +40,12 @@ module _ {V : Type 0} where
   on_read_only n served limit value holders t (REQ reading) =
       cond
       (holders t || nat_lt (count holders served) limit)
-      (act (home Read-Only value 0 (join t holders)) (same t) (DATA reading value))
-      (act (home Read-Only value 0 holders) (same t) BUSY)
+      (act (home read_only value 0 (join t holders)) (same t) (DATA reading value))
+      (act (home read_only value 0 holders) (same t) BUSY)
   on_read_only n served limit value holders t (REQ writing) =
       cond
       (count (besides t holders) served == 0)
-      (act (home Read-Write value 0 (same t)) (same t) (DATA writing value))
+      (act (home read_write value 0 (same t)) (same t) (DATA writing value))
       (cond
       (count holders served == count holders n)
       (act
@@ -69,7 +69,7 @@ module _ {V : Type 0} where
       (act (home (Transaction k) value 1 (same t)) holders INV)
       none
   on_read_write n served value holders t (REPM w) =
-      cond (holders t && one_holder n served holders) (act (home Read-Only w 0 nobody) nobody BUSY) none
+      cond (holders t && one_holder n served holders) (act (home read_only w 0 nobody) nobody BUSY) none
   on_read_write n served value holders t (UPDATE w) = none
   on_read_write n served value holders t ACKC = none
   on_read_write n served value holders t INV = none
@@ -96,8 +96,8 @@ module _ {V : Type 0} where
 
   -- The rule of each state.
   abbrev pub on : ℕ → ℕ → ℕ → Phase → V → ℕ → (ℕ → Bool) → ℕ → Msg V → Option (Act V)
-  on n served limit Read-Only value acks holders t message = on_read_only n served limit value holders t message
-  on n served limit Read-Write value acks holders t message = on_read_write n served value holders t message
+  on n served limit read_only value acks holders t message = on_read_only n served limit value holders t message
+  on n served limit read_write value acks holders t message = on_read_write n served value holders t message
   on n served limit (Transaction k) value acks holders t message =
       on_transaction n served k value acks holders t message
 

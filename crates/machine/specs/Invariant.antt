@@ -1,13 +1,13 @@
 -- What is kept along every call: of each record, that the terminals' shapes fit the home's entry; and of the site, what ties
 -- the records together.
 use Rattle.std.specs.Prelude.{◌≡◌, ℕ, ◌%◌, ◌<◌, ◌≤◌, Bool, true, false, not, ◌&&◌, ◌⊎◌, List, [], ◌∷◌}
-use Rattle.machine.specs.Machine.{Access, reading, writing, Cell, Phase, Read-Only, Read-Write, Transaction, Home, same, count}
+use Rattle.machine.specs.Machine.{Access, reading, writing, Cell, Phase, read_only, read_write, Transaction, Home, same, count}
 use Rattle.machine.specs.Site.{Mail, Place, empty, shared, owned, Want, rests, wants, Sizes, Site, clear, projection}
 use Rattle.machine.specs.Shapes.{Shape, idle, sharer, owner, requester, clean, dirty, access, has_copy, decode}
 
 -- The part that a terminal has in what the home is at.
 pub data Role : Type 0 where
-  idles shares owns owes-clean owes-dirty : Role
+  idles shares owns owes_clean owes_dirty : Role
   requests : Access → Role
 
 -- The part of a shape.
@@ -16,8 +16,8 @@ role (idle x) = idles
 role (sharer x) = shares
 role (owner x) = owns
 role (requester a) = requests (access a)
-role (clean x) = owes-clean
-role (dirty x) = owes-dirty
+role (clean x) = owes_clean
+role (dirty x) = owes_dirty
 
 -- Whether this part owes an acknowledgement.
 abbrev pub owing_by : Role → Bool
@@ -25,8 +25,8 @@ owing_by idles = false
 owing_by shares = false
 owing_by owns = false
 owing_by (requests k) = false
-owing_by owes-clean = true
-owing_by owes-dirty = true
+owing_by owes_clean = true
+owing_by owes_dirty = true
 
 -- Whether this part owes the value with the acknowledgement.
 abbrev pub has_value_by : Role → Bool
@@ -34,8 +34,8 @@ has_value_by idles = false
 has_value_by shares = false
 has_value_by owns = false
 has_value_by (requests k) = false
-has_value_by owes-clean = false
-has_value_by owes-dirty = true
+has_value_by owes_clean = false
+has_value_by owes_dirty = true
 
 -- Whether a shape owes an acknowledgement.
 abbrev pub owing : Shape → Bool
@@ -64,24 +64,24 @@ same_access writing writing = true
 -- The parts that go with the home's state, for a holder and for others: Read-Only has sharers for its holders, Read-Write an
 -- owner, a transaction the requester; who owes in a transaction is no holder any more.
 abbrev pub allowed_by : Phase → Bool → Role → Bool
-allowed_by Read-Only holder idles = not holder
-allowed_by Read-Only holder shares = holder
-allowed_by Read-Only holder owns = false
-allowed_by Read-Only holder (requests k) = false
-allowed_by Read-Only holder owes-clean = false
-allowed_by Read-Only holder owes-dirty = false
-allowed_by Read-Write holder idles = not holder
-allowed_by Read-Write holder shares = false
-allowed_by Read-Write holder owns = holder
-allowed_by Read-Write holder (requests k) = false
-allowed_by Read-Write holder owes-clean = false
-allowed_by Read-Write holder owes-dirty = false
+allowed_by read_only holder idles = not holder
+allowed_by read_only holder shares = holder
+allowed_by read_only holder owns = false
+allowed_by read_only holder (requests k) = false
+allowed_by read_only holder owes_clean = false
+allowed_by read_only holder owes_dirty = false
+allowed_by read_write holder idles = not holder
+allowed_by read_write holder shares = false
+allowed_by read_write holder owns = holder
+allowed_by read_write holder (requests k) = false
+allowed_by read_write holder owes_clean = false
+allowed_by read_write holder owes_dirty = false
 allowed_by (Transaction j) holder idles = not holder
 allowed_by (Transaction j) holder shares = false
 allowed_by (Transaction j) holder owns = false
 allowed_by (Transaction j) holder (requests k) = holder && same_access j k
-allowed_by (Transaction j) holder owes-clean = not holder
-allowed_by (Transaction j) holder owes-dirty = not holder
+allowed_by (Transaction j) holder owes_clean = not holder
+allowed_by (Transaction j) holder owes_dirty = not holder
 
 -- Whether a shape goes with the home's state.
 abbrev pub allowed : Phase → Bool → Shape → Bool
@@ -93,14 +93,14 @@ Sole n holders = (h : ℕ) × (h < n) × ((u : ℕ) → u < n → holders u ≡ 
 
 -- Outside Read-Only there is one holder.
 abbrev pub Held : Phase → ℕ → (ℕ → Bool) → Type 0
-Held Read-Only n holders = Unit {0}
-Held Read-Write n holders = Sole n holders
+Held read_only n holders = Unit {0}
+Held read_write n holders = Sole n holders
 Held (Transaction k) n holders = Sole n holders
 
 -- How many acknowledgements are owed: none outside transactions, one in a transaction to read, some in one to write.
 abbrev pub Owed : Phase → ℕ → Type 0
-Owed Read-Only acks = acks ≡ 0
-Owed Read-Write acks = acks ≡ 0
+Owed read_only acks = acks ≡ 0
+Owed read_write acks = acks ≡ 0
 Owed (Transaction reading) acks = acks ≡ 1
 Owed (Transaction writing) acks = 1 ≤ acks
 
@@ -121,8 +121,8 @@ module _ {V : Type 0} where
 
   -- Where the value is: at home in Read-Only, with the owner in Read-Write.
   abbrev pub Valued : Phase → ℕ → V → V → ℕ → (ℕ → Shape) → Type 0
-  Valued Read-Only n value last acks shape = value ≡ last
-  Valued Read-Write n value last acks shape = Unit {0}
+  Valued read_only n value last acks shape = value ≡ last
+  Valued read_write n value last acks shape = Unit {0}
   Valued (Transaction k) n value last acks shape = Settled n value last acks shape
 
   -- The shapes of n terminals fit the home's entry.

@@ -32,7 +32,7 @@ pub record Cell (V : Type 0) : Type 0 where
 
 -- The home's state of the record. In a transaction it waits for acknowledgements before it grants an access.
 pub data Phase : Type 0 where
-  Read-Only Read-Write : Phase
+  read_only read_write : Phase
   Transaction : Access → Phase
 
 -- The home's entry of the record: its state, its value, how many acknowledgements are owed, and who the holders are.

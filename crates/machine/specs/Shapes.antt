@@ -43,17 +43,17 @@ pub data Owner : Type 0 where
 -- Owes an acknowledgement, and has no value that the home lacks: told to invalidate, or acknowledged.
 pub data Clean : Type 0 where
   told : Bool → Clean
-  told-asking told-turned-away : Ask → Clean
-  data-coming-told acked : Clean
-  asked-acked acked-asked acked-turned-away : Access → Clean
+  told_asking told_turned_away : Ask → Clean
+  data_coming_told acked : Clean
+  asked_acked acked_asked acked_turned_away : Access → Clean
 
 -- Owes an acknowledgement, and has the value: in its copy, or on the way to or from the home.
 pub data Dirty : Type 0 where
   permission_coming_told : Bool → Dirty
-  owning-told given-back-told : Dirty
+  owning_told given_back_told : Dirty
   given_back_asking_told : Access → Dirty
-  update-sent given-back-acked : Dirty
-  given-back-asked-acked given-back-acked-asked update-sent-asked : Access → Dirty
+  update_sent given_back_acked : Dirty
+  given_back_asked_acked given_back_acked_asked update_sent_asked : Access → Dirty
 
 -- A shape. A requester is the one whose request the home's transaction is about.
 pub data Shape : Type 0 where
@@ -89,19 +89,19 @@ module _ {V : Type 0} where
   decode v (owner (given_back_asking k)) = cell no_copy (waits k) (REPM v ∷ REQ k ∷ []) []
   decode v (requester a) = cell (ask_copy v a) (waits (access a)) [] []
   decode v (clean (told b)) = cell (kept v b) still [] (INV ∷ [])
-  decode v (clean (told-asking a)) = cell (ask_copy v a) (waits (access a)) (REQ (access a) ∷ []) (INV ∷ [])
-  decode v (clean (told-turned-away a)) = cell (ask_copy v a) (waits (access a)) [] (INV ∷ BUSY ∷ [])
-  decode v (clean data-coming-told) = cell no_copy (waits reading) [] (DATA reading v ∷ INV ∷ [])
+  decode v (clean (told_asking a)) = cell (ask_copy v a) (waits (access a)) (REQ (access a) ∷ []) (INV ∷ [])
+  decode v (clean (told_turned_away a)) = cell (ask_copy v a) (waits (access a)) [] (INV ∷ BUSY ∷ [])
+  decode v (clean data_coming_told) = cell no_copy (waits reading) [] (DATA reading v ∷ INV ∷ [])
   decode v (clean acked) = cell no_copy still (ACKC ∷ []) []
-  decode v (clean (asked-acked k)) = cell no_copy (waits k) (REQ k ∷ ACKC ∷ []) []
-  decode v (clean (acked-asked k)) = cell no_copy (waits k) (ACKC ∷ REQ k ∷ []) []
-  decode v (clean (acked-turned-away k)) = cell no_copy (waits k) (ACKC ∷ []) (BUSY ∷ [])
+  decode v (clean (asked_acked k)) = cell no_copy (waits k) (REQ k ∷ ACKC ∷ []) []
+  decode v (clean (acked_asked k)) = cell no_copy (waits k) (ACKC ∷ REQ k ∷ []) []
+  decode v (clean (acked_turned_away k)) = cell no_copy (waits k) (ACKC ∷ []) (BUSY ∷ [])
   decode v (dirty (permission_coming_told b)) = cell (kept v b) (waits writing) [] (DATA writing v ∷ INV ∷ [])
-  decode v (dirty owning-told) = cell (writable v) still [] (INV ∷ [])
-  decode v (dirty given-back-told) = cell no_copy still (REPM v ∷ []) (INV ∷ [])
+  decode v (dirty owning_told) = cell (writable v) still [] (INV ∷ [])
+  decode v (dirty given_back_told) = cell no_copy still (REPM v ∷ []) (INV ∷ [])
   decode v (dirty (given_back_asking_told k)) = cell no_copy (waits k) (REPM v ∷ REQ k ∷ []) (INV ∷ [])
-  decode v (dirty update-sent) = cell no_copy still (UPDATE v ∷ []) []
-  decode v (dirty given-back-acked) = cell no_copy still (REPM v ∷ ACKC ∷ []) []
-  decode v (dirty (given-back-asked-acked k)) = cell no_copy (waits k) (REPM v ∷ REQ k ∷ ACKC ∷ []) []
-  decode v (dirty (given-back-acked-asked k)) = cell no_copy (waits k) (REPM v ∷ ACKC ∷ REQ k ∷ []) []
-  decode v (dirty (update-sent-asked k)) = cell no_copy (waits k) (UPDATE v ∷ REQ k ∷ []) []
+  decode v (dirty update_sent) = cell no_copy still (UPDATE v ∷ []) []
+  decode v (dirty given_back_acked) = cell no_copy still (REPM v ∷ ACKC ∷ []) []
+  decode v (dirty (given_back_asked_acked k)) = cell no_copy (waits k) (REPM v ∷ REQ k ∷ ACKC ∷ []) []
+  decode v (dirty (given_back_acked_asked k)) = cell no_copy (waits k) (REPM v ∷ ACKC ∷ REQ k ∷ []) []
+  decode v (dirty (update_sent_asked k)) = cell no_copy (waits k) (UPDATE v ∷ REQ k ∷ []) []

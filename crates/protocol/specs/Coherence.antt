@@ -54,11 +54,11 @@ NeverFull (answer ∷ given) = (answer.0 ≢ Full) × NeverFull given
 
 -- A step is a home step or a terminal step.
 pub data Step : Type 0 where
-  by_Home by-terminal : ℕ → Step
+  by_home by_terminal : ℕ → Step
 
 abbrev pub call_of : Step → Call
-call_of (by_Home t) = HomeStep t
-call_of (by-terminal t) = TerminalStep t
+call_of (by_home t) = HomeStep t
+call_of (by_terminal t) = TerminalStep t
 
 abbrev pub calls_of : List Step → List Call
 calls_of [] = []
