@@ -9,6 +9,6 @@ pub returns-else-eq : goal.returns-else-eq
 returns-else-eq c =
     let words = c.args.words.now in
     let back = drop (length words) c.args.again.now in
-    let same : c.split-at.result.0.now ≡ words =
-    c.split-at.ensures.front ∙ ap (take (length words)) c.in-ok-rewrite.ensures.same ∙ take_at words back (length words) refl in
+    let same : c.split_at.result.0.now ≡ words =
+    c.split_at.ensures.front ∙ ap (take (length words)) c.in_ok-rewrite.ensures.same ∙ take_at words back (length words) refl in
     absurd (not_from_Decides c.eq.result (slice_eq-Decides Decides-eqb _ _ _ c.eq.ensures) c.if-eq.false same)

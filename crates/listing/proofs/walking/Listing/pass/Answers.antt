@@ -3,12 +3,12 @@ use Rattle.message.proofs.Opcodes.{opcode_of_kind}
 use Rattle.listing.proofs.Steps.{counts_on, packet_first}
 use Rattle.listing.proofs.walking.Listing.pass.Goals as goal
 
-pub invariant-of-self : goal.invariant-of-self
-invariant-of-self c =
+pub invariant_of-self : goal.invariant_of-self
+invariant_of-self c =
     let self = c.args.self.now in
     let stands = c.requires.handed.stands in
     let left = length-drop self.at self.words.now in
-    (omega arith, (omega (arith, self.few), (counts_on self.counts self.packets _ self.counted, tt)))
+    record { within = omega arith; few = omega (arith, self.few); counted = counts_on self.counts self.packets _ self.counted }
 
 pub returns : goal.returns
 returns c =
