@@ -1,4 +1,4 @@
-// The law of coherence, proved once, over the definitions that the contracts of the home, the terminals and the site cite.
+// The law of coherence, proved once, over the definitions that the contracts of the home, the terminals and the site are to cite.
 
 #![tactic(auto)]
 
