@@ -1,5 +1,5 @@
 // The protocol's types. What they mean, every rule, every call and the law of coherence are definitions in specs/, which the
-// contracts of the home, the terminals and the site cite.
+// contracts of the home, the terminals and the site are to cite.
 
 #![tactic(auto)]
 
