@@ -1,6 +1,6 @@
 // Listings.
 use listing::{Line, Listing, Rewritten, compare_rewritten};
-use message::{Code, Kind};
+use message::{Refusal, Kind};
 use packet::Fault;
 use std::test::Fail;
 
@@ -21,7 +21,7 @@ fn a_fault_ends_the_listing(rt: HostRuntime) {
         })
     );
     let fault = Fault {
-        code: Code::UnknownRecord,
+        code: Err(Refusal::UnknownRecord),
         place: 3,
     };
     assert_eq!(rt; listing.next(), Some(Line::Fault(fault)));

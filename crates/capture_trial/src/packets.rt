@@ -1,5 +1,5 @@
 // Packets.
-use message::{Code, Kind, Message};
+use message::{Refusal, Kind, Message};
 use packet::{Fault, Packet, Reader, read, worked_examples};
 use stream::{rewrite, write_all};
 
@@ -11,7 +11,7 @@ fn said(words: &[u32]) -> Result<Packet, Fault> {
     }
 }
 
-fn faulty(code: Code, place: usize) -> Result<Packet, Fault> {
+fn faulty(code: Refusal, place: usize) -> Result<Packet, Fault> {
     Err(Fault { code, place })
 }
 
@@ -28,11 +28,11 @@ fn record_63_is_the_last(rt: HostRuntime) {
         said(&[0x0005_0201, 63]),
         Ok(packet(5, Kind::ReadRequest, 63, 0))
     );
-    assert_eq!(rt; said(&[0x0005_0201, 64]), faulty(Code::UnknownRecord, 1));
+    assert_eq!(rt; said(&[0x0005_0201, 64]), faulty(Err(Refusal::UnknownRecord), 1));
     let mut out = [7; 2];
     assert_eq!(rt;
         packet(5, Kind::ReadRequest, 64, 0).write(&mut out),
-        Code::Malformed
+        Err(Refusal::Malformed)
     );
     assert!(rt; out[0] == 7 && out[1] == 7);
 }
@@ -43,38 +43,38 @@ fn sources_go_with_kinds(rt: HostRuntime) {
         said(&[0x003f_0205, 0]),
         Ok(packet(63, Kind::Acknowledgement, 0, 0))
     );
-    assert_eq!(rt; said(&[0x0040_0205, 0]), faulty(Code::WrongSource, 0));
-    assert_eq!(rt; said(&[0x003f_0208, 0]), faulty(Code::WrongSource, 0));
+    assert_eq!(rt; said(&[0x0040_0205, 0]), faulty(Err(Refusal::WrongSource), 0));
+    assert_eq!(rt; said(&[0x003f_0208, 0]), faulty(Err(Refusal::WrongSource), 0));
     assert_eq!(rt;
         said(&[0x0040_0208, 0]),
         Ok(packet(64, Kind::Invalidate, 0, 0))
     );
-    assert_eq!(rt; said(&[0x0041_0208, 0]), faulty(Code::WrongSource, 0));
+    assert_eq!(rt; said(&[0x0041_0208, 0]), faulty(Err(Refusal::WrongSource), 0));
     let mut out = [7; 2];
     assert_eq!(rt;
         packet(64, Kind::Acknowledgement, 0, 0).write(&mut out),
-        Code::WrongSource
+        Err(Refusal::WrongSource)
     );
     assert_eq!(rt;
         packet(65, Kind::Invalidate, 0, 0).write(&mut out),
-        Code::WrongSource
+        Err(Refusal::WrongSource)
     );
     assert!(rt; out[0] == 7 && out[1] == 7);
 }
 
 #[test]
 fn opcodes_and_lengths_are_judged_first(rt: HostRuntime) {
-    assert_eq!(rt; said(&[0x0041_0200]), faulty(Code::UnknownOpcode, 0));
-    assert_eq!(rt; said(&[0x0041_020a]), faulty(Code::UnknownOpcode, 0));
-    assert_eq!(rt; said(&[0x0041_0401]), faulty(Code::WrongLength, 0));
-    assert_eq!(rt; said(&[0x0041_0206]), faulty(Code::WrongLength, 0));
+    assert_eq!(rt; said(&[0x0041_0200]), faulty(Err(Refusal::UnknownOpcode), 0));
+    assert_eq!(rt; said(&[0x0041_020a]), faulty(Err(Refusal::UnknownOpcode), 0));
+    assert_eq!(rt; said(&[0x0041_0401]), faulty(Err(Refusal::WrongLength), 0));
+    assert_eq!(rt; said(&[0x0041_0206]), faulty(Err(Refusal::WrongLength), 0));
 }
 
 #[test]
 fn the_largest_value_comes_back(rt: HostRuntime) {
     let update = packet(63, Kind::Update, 63, u64::MAX);
     let mut out = [7; 5];
-    assert_eq!(rt; update.write(&mut out), Code::Accepted);
+    assert_eq!(rt; update.write(&mut out), Ok(()));
     assert!(rt; out[0] == 0x003f_0404 && out[2] == u32::MAX && out[3] == u32::MAX && out[4] == 7);
     assert_eq!(rt; said(&out), Ok(update));
 }
@@ -84,10 +84,10 @@ fn the_largest_value_comes_back(rt: HostRuntime) {
 fn a_packet_is_cut(rt: HostRuntime) {
     let words = [0x0040_0406, 2, 500, 0];
     for length in 0..4 {
-        assert_eq!(rt; said(&words[0..length]), faulty(Code::MissingWords, length));
+        assert_eq!(rt; said(&words[0..length]), faulty(Err(Refusal::MissingWords), length));
         let mut out = [7; 4];
         let (short, _) = out.split_at_mut(length);
-        assert_eq!(rt; packet(64, Kind::ReadData, 2, 500).write(short), Code::Full);
+        assert_eq!(rt; packet(64, Kind::ReadData, 2, 500).write(short), Err(Refusal::Full));
         assert_eq!(rt; out, [7; 4]);
     }
     assert_eq!(rt; said(&words), Ok(packet(64, Kind::ReadData, 2, 500)));
@@ -97,7 +97,7 @@ fn a_packet_is_cut(rt: HostRuntime) {
 fn worked_examples_make_a_stream(rt: HostRuntime) {
     let mut out = [7; 7];
     let (code, count) = write_all(&worked_examples(), &mut out);
-    assert_eq!(rt; code, Code::Accepted);
+    assert_eq!(rt; code, Ok(()));
     assert_eq!(rt; count, 6);
     assert_eq!(rt; out, [0x0005_0201, 2, 0x0040_0406, 2, 500, 0, 7]);
     let mut again = [9; 6];

@@ -7,7 +7,7 @@ use Rattle.std.proofs.lemmas.Bool.{cond-true}
 use Rattle.message.specs.declared.Message.{Message}
 use Rattle.message.specs.Lists.{with_list}
 use Rattle.directory.specs.Directories.{Holders}
-use Rattle.network.specs.Traffic.{Traffic, after_drop, drop_code, drop_waiting, later}
+use Rattle.network.specs.Traffic.{Traffic, after_drop, drop_answer, drop_waiting, later}
 use Rattle.protocol.specs.declared.Entry.{Entry}
 use Rattle.protocol.specs.declared.Place.{Place}
 use Rattle.protocol.specs.declared.Wait.{Wait}
@@ -85,7 +85,7 @@ lanes_twice f g t m k =
 -- the oldest message is taken off
 pub lanes_dropped : (f : Message → Mail ℕ) (traffic : Traffic) (t : ℕ) (m : Message) (ms : List Message) → t < traffic.lanes → traffic.waiting t ≡ m ∷ ms
     → lanes f (after_drop traffic t).waiting ≡ changed (lanes f traffic.waiting) t (each f ms)
-unfolding drop_waiting drop_code
+unfolding drop_waiting drop_answer
 lanes_dropped f traffic t m ms there e =
     let yes = lt-ltb t traffic.lanes there in
     let some : leb 1 (length (traffic.waiting t)) ≡ true = le-leb 1 (length (traffic.waiting t)) (rw e (omega arith)) in

@@ -1,16 +1,15 @@
 -- The home's rules are those of the machine.
-use Rattle.std.proofs.Common.{◌≡◌, ℕ, ◌-◌, ◌<◌, ◌≤◌, Bool, true, false, cond, not, ◌&&◌, ◌||◌, eqb, ltb, ◌⊎◌, List, Some, None, Option, sym, refl, ap, ◌∙◌, subst, ap₂, inl, inr, arith, ltb-true, lt-ltb, eq-eqb, ne_eqb, eqb-true}
+use Rattle.std.proofs.Common.{◌≡◌, ℕ, ◌-◌, ◌<◌, ◌≤◌, Bool, true, false, cond, not, ◌&&◌, ◌||◌, eqb, ltb, ◌⊎◌, List, Some, None, Option, sym, refl, ap, ◌∙◌, subst, ap₂, inl, inr, arith, ltb-true, lt-ltb, eq-eqb, ne_eqb, eqb-true, Ok, Err, is_ok}
 use mathlib.Core.Option.{Option as Maybe, none, some}
 use Rattle.message.specs.declared.Message.{Message}
-use Rattle.message.specs.declared.codes.Code.TheVariants.{Accepted, AtLimit}
+use Rattle.message.specs.declared.refusals.Refusal.TheVariants.{AtLimit}
 use Rattle.protocol.specs.declared.CallCode.TheVariants.{Full, OutOfTurn}
 use Rattle.message.specs.declared.kinds.Kind.{Kind}
 use Rattle.message.specs.declared.kinds.Kind.TheVariants.{ReadRequest, WriteRequest, Replacement, Update, Acknowledgement, ReadData, WriteData, Invalidate, Busy}
-use Rattle.message.specs.Codes.{accepted}
 use Rattle.message.specs.Messages.{message_of}
 use Rattle.directory.specs.Sets.{tally}
 use Rattle.directory.specs.Directories.{Holders, View}
-use Rattle.directory.specs.Changes.{joined, emptied, add_code}
+use Rattle.directory.specs.Changes.{joined, emptied, add_answer}
 use Rattle.directory_client.specs.Clients.{alone}
 use Rattle.network.specs.Traffic.{Traffic}
 use Rattle.protocol.specs.declared.Entry.{Entry}
@@ -87,18 +86,18 @@ module _ (n : ℕ) (dir : View) (down : Traffic) (n64 : n ≤ 64) (r t : ℕ) (t
       (record { next_is = refl; others_are = λ k d. refl; down_is = sent_one down_of f t (message_of Busy r 0) (mail r BUSY) refl })
 
   -- Read-Only
-  admitted : accepted (add_code dir r t) ≡ (p t || ltb (count p 64) dir.limit)
+  admitted : is_ok (add_answer dir r t) ≡ (p t || ltb (count p 64) dir.limit)
   admitted =
       rw (lt-ltb r dir.records served-record, lt-ltb t dir.terminals served-terminal, within_below h t (omega arith), count_within h 64 (omega arith))
       (pick (h t || ltb (tally h 64) dir.limit))
     where
-      pick : (b : Bool) → accepted (cond b Accepted AtLimit) ≡ b
+      pick : (b : Bool) → is_ok (cond b (Ok tt) (Err AtLimit)) ≡ b
       pick true = refl
       pick false = refl
 
   read_ro : (v a : ℕ) → a ≡ 0 → Does (sc ReadOnly v a) r (law.read_granted (sc ReadOnly v a) r t) (on_read_only n 64 dir.limit v p t (REQ reading))
   unfolding on_read_only
-  read_ro v a z = pick (accepted (add_code dir r t)) admitted
+  read_ro v a z = pick (is_ok (add_answer dir r t)) admitted
     where
       pick : (b : Bool) → b ≡ (p t || ltb (count p 64) dir.limit)
           → Does (sc ReadOnly v a) r

@@ -1,8 +1,7 @@
 -- How calls change a directory, and what they answer.
-use Rattle.std.specs.Prelude.{ℕ, cond, not, ◌&&◌, ◌||◌, ◌==◌, nat_lt}
-use Rattle.message.specs.declared.codes.Code.{Code}
-use Rattle.message.specs.declared.codes.Code.TheVariants.{Accepted, NoSuchTerminal, NoSuchRecord, AtLimit}
-use Rattle.message.specs.Codes.{accepted}
+use Rattle.std.specs.Prelude.{ℕ, cond, not, ◌&&◌, ◌||◌, ◌==◌, nat_lt, Ok, Err, is_ok}
+use Rattle.message.specs.Refusals.{Answer}
+use Rattle.message.specs.declared.refusals.Refusal.TheVariants.{NoSuchTerminal, NoSuchRecord, AtLimit}
 use Rattle.message.specs.Checks.{given}
 use Rattle.directory.specs.Directories.{Holders, View, count}
 
@@ -19,20 +18,20 @@ abbrev pub emptied : Holders → ℕ → Holders
 emptied h r q u = not (q == r) && h q u
 
 -- Add: the record and then the terminal must be served; a holder is accepted again, another terminal below the limit.
-abbrev pub add_code : View → ℕ → ℕ → Code
-add_code v r t =
-    given (nat_lt r v.records) NoSuchRecord
-    (given (nat_lt t v.terminals) NoSuchTerminal
-    (given (v.holders r t || nat_lt (count v r) v.limit) AtLimit Accepted))
+abbrev pub add_answer : View → ℕ → ℕ → Answer
+add_answer v r t =
+    given (nat_lt r v.records) (Err NoSuchRecord)
+    (given (nat_lt t v.terminals) (Err NoSuchTerminal)
+    (given (v.holders r t || nat_lt (count v r) v.limit) (Err AtLimit) (Ok tt)))
 
 -- After an accepted add the terminal is a holder; a refusal changes nothing.
 abbrev pub added : View → ℕ → ℕ → View
-added v r t = with_holders v (cond (accepted (add_code v r t)) (joined v.holders r t) v.holders)
+added v r t = with_holders v (cond (is_ok (add_answer v r t)) (joined v.holders r t) v.holders)
 
 -- Clear: the record must be served.
-abbrev pub clear_code : View → ℕ → Code
-clear_code v r = given (nat_lt r v.records) NoSuchRecord Accepted
+abbrev pub clear_answer : View → ℕ → Answer
+clear_answer v r = given (nat_lt r v.records) (Err NoSuchRecord) (Ok tt)
 
 -- After an accepted clear the record has no holder; a refusal changes nothing.
 abbrev pub cleared : View → ℕ → View
-cleared v r = with_holders v (cond (accepted (clear_code v r)) (emptied v.holders r) v.holders)
+cleared v r = with_holders v (cond (is_ok (clear_answer v r)) (emptied v.holders r) v.holders)

@@ -4,9 +4,9 @@
 
 ghost use Rattle.std.specs.Prelude.{◌≡◌};
 ghost use Rattle.directory.specs.Directories.{View, Sound, count, next};
-ghost use Rattle.directory.specs.Changes.{add_code, added, clear_code, cleared};
+ghost use Rattle.directory.specs.Changes.{add_answer, added, clear_answer, cleared};
 
-use message::Code;
+use message::Refusal;
 
 /// For each record that it serves a set of terminals, the holders. It serves 1 to 64 records and 1 to 64 terminals,
 /// numbered from 0, and a record has at most as many holders as the limit, 1 to 64, once that many have joined.
@@ -14,13 +14,13 @@ pub trait Directory {
     ghost view: { Self → View };
 
     /// Lets terminal `t` join the holders of record `r`. A refusal, and an add of a holder, change nothing.
-    fn add(&mut self, r: usize, t: usize) -> Code
-        ensures code { result ≡ add_code (view self.old) r t }
+    fn add(&mut self, r: usize, t: usize) -> Result<(), Refusal>
+        ensures answer { result ≡ add_answer (view self.old) r t }
         ensures after { view self.new ≡ added (view self.old) r t };
 
     /// Lets all holders of record `r` go. A refusal changes nothing.
-    fn clear(&mut self, r: usize) -> Code
-        ensures code { result ≡ clear_code (view self.old) r }
+    fn clear(&mut self, r: usize) -> Result<(), Refusal>
+        ensures answer { result ≡ clear_answer (view self.old) r }
         ensures after { view self.new ≡ cleared (view self.old) r };
 
     /// Whether terminal `t` is a holder of record `r`.

@@ -1,15 +1,14 @@
 -- What the calls over any directory do.
-use Rattle.std.specs.Prelude.{ℕ, cond, None, Option, ◌==◌, nat_lt}
-use Rattle.message.specs.declared.codes.Code.{Code}
-use Rattle.message.specs.declared.codes.Code.TheVariants.{Accepted, NoSuchTerminal, NoSuchRecord}
+use Rattle.std.specs.Prelude.{ℕ, cond, None, Option, ◌==◌, nat_lt, Ok, Err, is_ok}
+use Rattle.message.specs.Refusals.{Answer}
+use Rattle.message.specs.declared.refusals.Refusal.TheVariants.{NoSuchTerminal, NoSuchRecord}
 use Rattle.message.specs.Checks.{given}
-use Rattle.message.specs.Codes.{accepted}
 use Rattle.directory.specs.Directories.{Holders, View, count, next}
 use Rattle.directory.specs.Changes.{with_holders}
 
 -- A hand-over: the record and then the terminal must be served.
-abbrev pub hand_over_code : View → ℕ → ℕ → Code
-hand_over_code v r t = given (nat_lt r v.records) NoSuchRecord (given (nat_lt t v.terminals) NoSuchTerminal Accepted)
+abbrev pub hand_over_answer : View → ℕ → ℕ → Answer
+hand_over_answer v r t = given (nat_lt r v.records) (Err NoSuchRecord) (given (nat_lt t v.terminals) (Err NoSuchTerminal) (Ok tt))
 
 -- Terminal t alone holds record r; the sets of other records stay.
 abbrev pub alone : Holders → ℕ → ℕ → Holders
@@ -17,7 +16,7 @@ alone h r t q u = cond (q == r) (u == t) (h q u)
 
 -- After an accepted hand-over the terminal alone is a holder; a refusal changes nothing.
 abbrev pub handed_over : View → ℕ → ℕ → View
-handed_over v r t = with_holders v (cond (accepted (hand_over_code v r t)) (alone v.holders r t) v.holders)
+handed_over v r t = with_holders v (cond (is_ok (hand_over_answer v r t)) (alone v.holders r t) v.holders)
 
 -- The holder of a record that has just one.
 abbrev pub only_holder : View → ℕ → Option ℕ

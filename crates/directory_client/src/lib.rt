@@ -3,21 +3,21 @@
 #![tactic(auto)]
 
 ghost use Rattle.std.specs.Prelude.{◌≡◌};
-ghost use Rattle.directory_client.specs.Clients.{hand_over_code, handed_over, only_holder};
+ghost use Rattle.directory_client.specs.Clients.{hand_over_answer, handed_over, only_holder};
 
 use directory::Directory;
-use message::Code;
+use message::Refusal;
 
 /// Makes terminal `t` the only holder of record `r`. Where the record or the terminal is not served nothing changes.
-pub fn hand_over<D: Directory>(d: &mut D, r: usize, t: usize) -> Code
-    ensures code { result ≡ hand_over_code (D.Directory.view d.old) r t }
+pub fn hand_over<D: Directory>(d: &mut D, r: usize, t: usize) -> Result<(), Refusal>
+    ensures answer { result ≡ hand_over_answer (D.Directory.view d.old) r t }
     ensures after { D.Directory.view d.new ≡ handed_over (D.Directory.view d.old) r t }
 {
     if r >= d.records() {
-        return Code::NoSuchRecord;
+        return Err(Refusal::NoSuchRecord);
     }
     if t >= d.terminals() {
-        return Code::NoSuchTerminal;
+        return Err(Refusal::NoSuchTerminal);
     }
     let _ = d.clear(r);
     d.add(r, t)

@@ -1,7 +1,7 @@
 // The same calls, random to look at, on a full map and on pointers over a full map.
 use directory::Directory;
 use full_map::FullMap;
-use message::Code;
+use message::Refusal;
 use pointers::Pointers;
 use std::test::Fail;
 

@@ -1,7 +1,7 @@
 // Sizes, what is not served, and the row that spills.
 use directory::Directory;
 use full_map::FullMap;
-use message::Code;
+use message::Refusal;
 use pointers::{Pointers, worked_example};
 use std::process::Abort;
 use std::test::Fail;
@@ -9,7 +9,7 @@ use std::test::Fail;
 fn refused(records: usize, terminals: usize) -> bool {
     match FullMap::new(records, terminals) {
         Ok(_) => false,
-        Err(code) => code == Code::Unfit,
+        Err(code) => code == Err(Refusal::Unfit),
     }
 }
 
@@ -22,15 +22,15 @@ fn sizes_are_from_1_to_64(rt: HostRuntime) {
 
 // What any directory of 2 records and 10 terminals answers.
 fn turns_away<D: Directory>(rt: &impl Abort, d: &mut D) -> Result<(), Fail> {
-    assert_eq!(rt; d.add(2, 10), Code::NoSuchRecord);
-    assert_eq!(rt; d.add(1, 10), Code::NoSuchTerminal);
-    assert_eq!(rt; d.clear(2), Code::NoSuchRecord);
+    assert_eq!(rt; d.add(2, 10), Err(Refusal::NoSuchRecord));
+    assert_eq!(rt; d.add(1, 10), Err(Refusal::NoSuchTerminal));
+    assert_eq!(rt; d.clear(2), Err(Refusal::NoSuchRecord));
     assert!(rt; !d.holds(2, 0) && d.count(2) == 0 && d.next(2, 0) == None);
     assert!(rt; !d.holds(1, 10) && d.next(1, 10) == None);
-    assert_eq!(rt; d.add(1, 9), Code::Accepted);
-    assert_eq!(rt; d.add(1, 9), Code::Accepted);
+    assert_eq!(rt; d.add(1, 9), Ok(()));
+    assert_eq!(rt; d.add(1, 9), Ok(()));
     assert!(rt; d.count(1) == 1 && d.next(1, 0) == Some(9) && d.count(0) == 0);
-    assert_eq!(rt; d.clear(1), Code::Accepted);
+    assert_eq!(rt; d.clear(1), Ok(()));
     assert!(rt; d.count(1) == 0);
     Ok(())
 }
@@ -60,7 +60,7 @@ fn a_row_spills(rt: HostRuntime) -> Result<(), Fail> {
     };
     let mut layered = Pointers::new(below);
     for t in [0, 1, 2, 3, 9] {
-        assert_eq!(rt; layered.add(0, t), Code::Accepted);
+        assert_eq!(rt; layered.add(0, t), Ok(()));
     }
     assert!(rt; layered.count(0) == 5);
     assert!(rt; layered.next(0, 3) == Some(3));

@@ -1,13 +1,12 @@
 -- What each call does to the words of a full map.
 use Rattle.std.specs.Prelude.{◌≡◌, ℕ, zero, suc, ◌*◌, ◌%◌, ◌^◌, ◌<◌, ◌≤◌, Bool, true, false, not, ◌&&◌, ◌||◌, List, length, replicate, ◌==◌, ◌≢◌, slice_index, slice_set, refl}
-use Rattle.std.proofs.Common.{sym, ◌∙◌, ap, subst, ⊎_elim, arith, pow_mono, get_or-set_same, get_or-set_other}
+use Rattle.std.proofs.Common.{sym, ◌∙◌, ap, subst, ⊎_elim, arith, pow_mono, get_or-set_same, get_or-set_other, Ok}
 use Rattle.std.proofs.Math.Path.{fun_ext}
 use Rattle.std.specs.Int.Bits.{bit_or}
 use Rattle.std.proofs.Math.Pow.{pow-lt}
 use Rattle.std.proofs.lemmas.Nat.{one_shl, or_lt}
 use Rattle.std.proofs.lemmas.Bool.{cases_eq, cases_Bool, eq-eqb, ne_eqb}
-use Rattle.message.specs.declared.codes.Code.TheVariants.{Accepted}
-use Rattle.directory.specs.Changes.{joined, emptied, add_code}
+use Rattle.directory.specs.Changes.{joined, emptied, add_answer}
 use Rattle.directory.proofs.Counting.{tally_lt}
 use Rattle.directory.proofs.Adding.{holder_accepted, newcomer_accepted}
 use Rattle.full_map.specs.Words.{bit, of_words}
@@ -73,7 +72,7 @@ or_word_lt w ts t h l k =
     or_lt ts w _ h (subst (λ (x : ℕ). x < 2 ^ ts) (sym (one_shl t 64 (omega arith))) (pow-lt k))
 
 -- a full map has room for every terminal that it serves
-pub map_accepts : (ws : List ℕ) (rs ts r t : ℕ) → r < rs → t < ts → ts ≤ 64 → add_code (of_words ws rs ts) r t ≡ Accepted
+pub map_accepts : (ws : List ℕ) (rs ts r t : ℕ) → r < rs → t < ts → ts ≤ 64 → add_answer (of_words ws rs ts) r t ≡ Ok tt
 map_accepts ws rs ts r t h k l =
     ⊎_elim (holder_accepted (of_words ws rs ts) r t h k)
     (λ e. newcomer_accepted (of_words ws rs ts) r t h k (tally_lt _ t 64 (omega arith) e))

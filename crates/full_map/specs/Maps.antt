@@ -1,7 +1,7 @@
 -- What a full map means, and which are made.
-use Rattle.std.specs.Prelude.{◌≡◌, ℕ, Bool, true, false, ◌&&◌, Result, MatchResult}
-use Rattle.message.specs.declared.codes.Code.{Code}
-use Rattle.message.specs.declared.codes.Code.TheVariants.{Unfit}
+use Rattle.std.specs.Prelude.{◌≡◌, ℕ, Bool, true, false, ◌&&◌, Result, MatchResult, Err}
+use Rattle.message.specs.Refusals.{Answer}
+use Rattle.message.specs.declared.refusals.Refusal.TheVariants.{Unfit}
 use Rattle.directory.specs.Directories.{View, size_fits, empty}
 use Rattle.full_map.specs.Words.{of_words}
 use Rattle.full_map.specs.declared.FullMap.{FullMap}
@@ -15,8 +15,8 @@ abbrev pub sizes_fit : ℕ → ℕ → Bool
 sizes_fit records terminals = size_fits records && size_fits terminals
 
 -- Where the sizes fit, an empty map of these sizes is made; else they are refused.
-abbrev pub Makes : ℕ → ℕ → Result FullMap Code → Type 0
+abbrev pub Makes : ℕ → ℕ → Result FullMap Answer → Type 0
 Makes records terminals made =
     MatchResult made
     (λ m. (sizes_fit records terminals ≡ true) × (map_view m ≡ empty records terminals 64))
-    (λ c. (sizes_fit records terminals ≡ false) × (c ≡ Unfit))
+    (λ c. (sizes_fit records terminals ≡ false) × (c ≡ Err Unfit))

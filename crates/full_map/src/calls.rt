@@ -5,15 +5,15 @@ ghost use Rattle.std.proofs.Common.{arith};
 
 use crate::FullMap;
 use directory::Directory;
-use message::Code;
+use message::Refusal;
 
 impl FullMap {
-    /// A map without holders, or `Code::Unfit` where a size is not from 1 to 64.
-    pub fn new(records: usize, terminals: usize) -> Result<FullMap, Code>
+    /// A map without holders, or `Refusal::Unfit` where a size is not from 1 to 64.
+    pub fn new(records: usize, terminals: usize) -> Result<FullMap, Refusal>
         ensures made { Makes records terminals result }
     {
         if records < 1 || records > 64 || terminals < 1 || terminals > 64 {
-            return Err(Code::Unfit);
+            return Err(Refusal::Unfit);
         }
         Ok(FullMap {
             words: [0; 64],
@@ -37,23 +37,23 @@ impl Directory for FullMap {
           served = served d.words d.records d.terminals d.narrow d.unused;
         } };
 
-    fn add(&mut self, r: usize, t: usize) -> Code {
+    fn add(&mut self, r: usize, t: usize) -> Result<(), Refusal> {
         if r >= self.records {
-            return Code::NoSuchRecord;
+            return Err(Refusal::NoSuchRecord);
         }
         if t >= self.terminals {
-            return Code::NoSuchTerminal;
+            return Err(Refusal::NoSuchTerminal);
         }
         self.words[r] = self.words[r] | 1u64 << t;
-        Code::Accepted
+        Ok(())
     }
 
-    fn clear(&mut self, r: usize) -> Code {
+    fn clear(&mut self, r: usize) -> Result<(), Refusal> {
         if r >= self.records {
-            return Code::NoSuchRecord;
+            return Err(Refusal::NoSuchRecord);
         }
         self.words[r] = 0;
-        Code::Accepted
+        Ok(())
     }
 
     fn holds(&self, r: usize, t: usize) -> bool {

@@ -1,10 +1,10 @@
 -- What a change of one lane's part and span makes of what waits in the lanes.
-use Rattle.std.proofs.Common.{◌≡◌, ℕ, ◌*◌, ◌<◌, ◌≤◌, ltb, List, [], length, set, replicate, None, Option, sym, refl, ap, ◌∙◌, ⊎_elim, arith}
+use Rattle.std.proofs.Common.{◌≡◌, ℕ, ◌*◌, ◌<◌, ◌≤◌, ltb, List, [], length, set, replicate, None, Option, sym, refl, ap, ◌∙◌, ⊎_elim, arith, Err}
 use Rattle.std.proofs.lemmas.List.{get_or_past, get_or-replicate, get_or-set_other, get_or-set_same, length-replicate}
 use Rattle.std.proofs.lemmas.Bool.{cases_lt, cond-true, lt-ltb}
 use Rattle.std.specs.List.{slice_get}
-use Rattle.message.specs.declared.codes.Code.{Code}
-use Rattle.message.specs.declared.codes.Code.TheVariants.{NoSuchTerminal}
+use Rattle.message.specs.Refusals.{Answer}
+use Rattle.message.specs.declared.refusals.Refusal.TheVariants.{NoSuchTerminal}
 use Rattle.message.specs.Lists.{with_list}
 use Rattle.message.proofs.Lists.{with_is}
 use Rattle.ring.specs.Spans.{within}
@@ -16,7 +16,7 @@ use Rattle.lanes.specs.Parts.{no_span, part, span_at, waiting_in}
 use Rattle.lanes.proofs.Parts.{length_over, length_part, over, part_other, part_same}
 
 -- A lane that is there, and what its ring then answers and leaves.
-pub record Landed {X : Type 0} (xs : List X) (spans : List Span) (count size l : ℕ) (ys : List X) (span : Span) (answer : Code) (code : Code) (new : List X) : Type 0 where
+pub record Landed {X : Type 0} (xs : List X) (spans : List Span) (count size l : ℕ) (ys : List X) (span : Span) (answer : Answer) (code : Answer) (new : List X) : Type 0 where
   pub room : count * size ≤ length (over xs size l ys)
   pub answers : answer ≡ checked count l code
   pub holds : waiting_in (over xs size l ys) (set spans l span) size ≡ changed count (waiting_in xs spans size) l new
@@ -37,7 +37,7 @@ pub waiting_is : {X : Type 0} (xs : List X) (spans : List Span) (size l : ℕ)
 unfolding waiting_in
 waiting_is xs spans size l = refl
 
-pub landed : {X : Type 0} (xs : List X) (spans : List Span) (count size l : ℕ) (ys : List X) (span : Span) (answer : Code) (rule : List X → Code) (change : List X → List X)
+pub landed : {X : Type 0} (xs : List X) (spans : List Span) (count size l : ℕ) (ys : List X) (span : Span) (answer : Answer) (rule : List X → Answer) (change : List X → List X)
     → count * size ≤ length xs → l < count → l < length spans → length ys ≡ length (part xs size l)
     → answer ≡ rule (waiting (part xs size l) (span_at spans l).start (span_at spans l).count)
     → waiting ys span.start span.count ≡ change (waiting (part xs size l) (span_at spans l).start (span_at spans l).count)
@@ -48,7 +48,7 @@ landed xs spans count size l ys span answer rule change room there listed kept c
     let yes = lt-ltb l count there in
     record {
       room = omega (arith, length_over xs ys count size l room there long);
-      answers = code ∙ ap rule is ∙ sym (cond-true (ltb l count) (rule (waiting_in xs spans size l)) NoSuchTerminal yes);
+      answers = code ∙ ap rule is ∙ sym (cond-true (ltb l count) (rule (waiting_in xs spans size l)) (Err NoSuchTerminal) yes);
       holds =
           lands xs spans count size l ys span room there listed long ∙ ap (with_list (waiting_in xs spans size) l) (items ∙ ap change is)
           ∙ sym (cond-true (ltb l count) _ (waiting_in xs spans size) yes);

@@ -1,14 +1,14 @@
 -- What the calls on lanes answer and leave, where there are so many lanes.
-use Rattle.std.specs.Prelude.{ℕ, cond, List, length, None, Option, nat_lt}
+use Rattle.std.specs.Prelude.{ℕ, cond, List, length, None, Option, nat_lt, Err}
 use Rattle.std.specs.List.{slice_get}
-use Rattle.message.specs.declared.codes.Code.{Code}
-use Rattle.message.specs.declared.codes.Code.TheVariants.{NoSuchTerminal}
+use Rattle.message.specs.Refusals.{Answer}
+use Rattle.message.specs.declared.refusals.Refusal.TheVariants.{NoSuchTerminal}
 use Rattle.message.specs.Checks.{given}
 use Rattle.message.specs.Lists.{with_list}
 
 -- Is the lane there? Then what its ring answers.
-abbrev pub checked : ℕ → ℕ → Code → Code
-checked count l code = given (nat_lt l count) NoSuchTerminal code
+abbrev pub checked : ℕ → ℕ → Answer → Answer
+checked count l code = given (nat_lt l count) (Err NoSuchTerminal) code
 
 -- If it is, it holds another list; the other lanes stay.
 abbrev pub changed : {X : Type 0} → ℕ → (ℕ → List X) → ℕ → List X → ℕ → List X

@@ -1,17 +1,17 @@
 // What can be asked of lanes side by side: put, look, discard.
 ghost use Rattle.std.specs.Prelude.{◌≡◌, ℕ, ◌*◌, ◌≤◌, [], length};
-ghost use Rattle.ring.specs.Calls.{discard_code, discard_list, put_code, put_list};
+ghost use Rattle.ring.specs.Calls.{discard_answer, discard_list, put_answer, put_list};
 ghost use Rattle.ring.specs.Waiting.{waiting};
 ghost use Rattle.lanes.specs.Calls.{changed, checked, counted, looked};
 ghost use Rattle.lanes.specs.Standing.{Standing, held};
 
 use crate::Lanes;
-use message::Code;
+use message::Refusal;
 use ring::{Ring, Span};
 
 /// Puts elements into the ring at a span of slots, and answers the code and the span then.
-fn put_in<T: Copy>(part: &mut [T], span: Span, xs: &[T]) -> (Code, Span)
-    ensures code { result.0 ≡ put_code (length part.old) (waiting part.old span.start span.count) xs.now }
+fn put_in<T: Copy>(part: &mut [T], span: Span, xs: &[T]) -> (Refusal, Span)
+    ensures answer { result.0 ≡ put_answer (length part.old) (waiting part.old span.start span.count) xs.now }
     ensures held { waiting part.new result.1.start result.1.count ≡ put_list (length part.old) (waiting part.old span.start span.count) xs.now }
 {
     let mut ring = Ring::resume(part, span);
@@ -20,8 +20,8 @@ fn put_in<T: Copy>(part: &mut [T], span: Span, xs: &[T]) -> (Code, Span)
 }
 
 /// Discards the oldest elements of the ring at a span of slots, and answers the code and the span then.
-fn discard_in<T: Copy>(part: &mut [T], span: Span, k: usize) -> (Code, Span)
-    ensures code { result.0 ≡ discard_code k (waiting part.old span.start span.count) }
+fn discard_in<T: Copy>(part: &mut [T], span: Span, k: usize) -> (Refusal, Span)
+    ensures answer { result.0 ≡ discard_answer k (waiting part.old span.start span.count) }
     ensures held { waiting part.new result.1.start result.1.count ≡ discard_list k (waiting part.old span.start span.count) }
 {
     let mut ring = Ring::resume(part, span);
@@ -73,17 +73,17 @@ impl<'a, T: Copy> Lanes<'a, T> {
     }
 
     /// Elements join the end of a lane in their order, if there is room for all of them.
-    pub fn put_all(&mut self, lane: usize, xs: &[T]) -> Code
+    pub fn put_all(&mut self, lane: usize, xs: &[T]) -> Result<(), Refusal>
         requires standing { Standing self.old }
         ensures standing { Standing self.new }
-        ensures code { result ≡ checked self.old.count lane (put_code self.old.size (held self.old lane) xs.now) }
+        ensures answer { result ≡ checked self.old.count lane (put_answer self.old.size (held self.old lane) xs.now) }
         ensures held { held self.new ≡ changed self.old.count (held self.old) lane (put_list self.old.size (held self.old lane) xs.now) }
         ensures count { self.new.count ≡ self.old.count }
         ensures size { self.new.size ≡ self.old.size }
         ensures lender { self.new.slots.ghost_name ≡ self.old.slots.ghost_name }
     {
         if lane >= self.count {
-            return Code::NoSuchTerminal;
+            return Err(Refusal::NoSuchTerminal);
         }
         let from = lane * self.size;
         let to = from + self.size;
@@ -95,17 +95,17 @@ impl<'a, T: Copy> Lanes<'a, T> {
     }
 
     /// The k oldest elements of a lane go, if so many wait.
-    pub fn discard_many(&mut self, lane: usize, k: usize) -> Code
+    pub fn discard_many(&mut self, lane: usize, k: usize) -> Result<(), Refusal>
         requires standing { Standing self.old }
         ensures standing { Standing self.new }
-        ensures code { result ≡ checked self.old.count lane (discard_code k (held self.old lane)) }
+        ensures answer { result ≡ checked self.old.count lane (discard_answer k (held self.old lane)) }
         ensures held { held self.new ≡ changed self.old.count (held self.old) lane (discard_list k (held self.old lane)) }
         ensures count { self.new.count ≡ self.old.count }
         ensures size { self.new.size ≡ self.old.size }
         ensures lender { self.new.slots.ghost_name ≡ self.old.slots.ghost_name }
     {
         if lane >= self.count {
-            return Code::NoSuchTerminal;
+            return Err(Refusal::NoSuchTerminal);
         }
         let from = lane * self.size;
         let to = from + self.size;

@@ -1,6 +1,6 @@
 -- Each rule of the home leaves a legal entry where it found one. The one rule that counts anew is that of a write request while
 -- others hold the record: it awaits one acknowledgement from each of these, and as the writer is none of them, 1 to 63.
-use Rattle.std.proofs.Common.{◌≡◌, ℕ, ◌<◌, ◌≤◌, Bool, true, false, cond, not, eqb, ltb, List, Some, None, Option, refl, arith}
+use Rattle.std.proofs.Common.{◌≡◌, ℕ, ◌<◌, ◌≤◌, Bool, true, false, cond, not, eqb, ltb, List, Some, None, Option, refl, arith, is_ok}
 use Rattle.std.proofs.lemmas.Bool.{cond_both, eqb-false, eq-eqb, ltb-true, not_from_true, and_right}
 use Rattle.message.specs.declared.Message.{Message}
 use Rattle.protocol.specs.declared.CallCode.{CallCode}
@@ -8,9 +8,8 @@ use Rattle.protocol.specs.declared.CallCode.TheVariants.{Full, OutOfTurn}
 use Rattle.message.specs.declared.kinds.Kind.{Kind}
 use Rattle.message.specs.declared.kinds.Kind.TheVariants.{ReadRequest, WriteRequest, Replacement, Update, Acknowledgement, ReadData, WriteData, Invalidate, Busy}
 use Rattle.message.specs.Checks.{given}
-use Rattle.message.specs.Codes.{accepted}
 use Rattle.directory.specs.Directories.{Holders}
-use Rattle.directory.specs.Changes.{add_code}
+use Rattle.directory.specs.Changes.{add_answer}
 use Rattle.directory.proofs.Counting.{tally_lt}
 use Rattle.protocol.specs.declared.Entry.{Entry}
 use Rattle.protocol.specs.declared.HomeState.{HomeState}
@@ -52,7 +51,7 @@ module _ (s : Scene) (r t : ℕ) (before : Legal s.entry) where
   -- the rules, in their order
   read_granted_legal : Leaves (read_granted s r t)
   read_granted_legal =
-      behind (has_room s.down t) Full (either (accepted (add_code s.directory r t)) (λ _. same_legal) (λ _. same_legal))
+      behind (has_room s.down t) Full (either (is_ok (add_answer s.directory r t)) (λ _. same_legal) (λ _. same_legal))
 
   write_unshared_legal : s.entry.awaited ≡ 0 → Leaves (write_unshared s r t)
   write_unshared_legal none = behind (has_room s.down t) Full (record { legal = none })

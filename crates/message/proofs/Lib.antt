@@ -1,3 +1,2 @@
 pub mod Opcodes
-pub mod Accepts
 pub mod Lists

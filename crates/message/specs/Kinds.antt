@@ -1,6 +1,8 @@
 -- The nine kinds of message: their numbers, their direction, what they carry, how they are shown.
-use Rattle.std.specs.Prelude.{ℕ, Bool, true, false, cond, List, [], ◌∷◌, Some, None, codes, Option, ◌==◌}
+use Rattle.std.specs.Prelude.{◌≡◌, ℕ, Bool, true, false, cond, List, [], ◌∷◌, Some, None, codes, Option, ◌==◌, Result, IfOk}
+use Rattle.std.specs.Option.{ok_or}
 use Rattle.message.specs.declared.kinds.Kind.{Kind}
+use Rattle.message.specs.declared.kinds.UnknownOpcode.{UnknownOpcode}
 use Rattle.message.specs.declared.kinds.Kind.TheVariants.{ReadRequest, WriteRequest, Replacement, Update, Acknowledgement, ReadData, WriteData, Invalidate, Busy}
 
 -- The opcode of a kind.
@@ -27,6 +29,16 @@ all_kinds =
 -- The kind with an opcode, if there is one.
 abbrev pub kind_of : ℕ → Option Kind
 kind_of opcode = kind_among all_kinds opcode
+
+-- What reading an opcode answers: the kind with it, of which it is the opcode again, or that it is the number of no kind.
+pub record Decodes (opcode : ℕ) (answer : Result Kind UnknownOpcode) : Type 0 where
+  pub value : answer ≡ ok_or (kind_of opcode) (record { 0 = opcode })
+  pub back : IfOk answer (λ kind. opcode_of kind ≡ opcode)
+
+-- What writing a kind as a number gives: its opcode, which is read as that kind again.
+pub record Encodes (kind : Kind) (opcode : ℕ) : Type 0 where
+  pub value : opcode ≡ opcode_of kind
+  pub back : kind_of opcode ≡ Some kind
 
 -- Whether a kind carries a value.
 abbrev pub carries_value : Kind → Bool

@@ -1,5 +1,5 @@
 pub mod Kinds
-pub mod Codes
+pub mod Refusals
 pub mod Messages
 pub mod Checks
 pub mod Lists

@@ -1,6 +1,8 @@
 // The nine kinds of message.
-ghost use Rattle.std.specs.Prelude.{◌≡◌, IfSome, Some};
-ghost use Rattle.message.specs.Kinds.{kind_of, opcode_of, carries_value, goes_home, words_of, mnemonic_of};
+ghost use Rattle.std.specs.Prelude.{◌≡◌, Some};
+ghost use Rattle.message.specs.Kinds.{Encodes, Decodes, carries_value, goes_home, words_of, mnemonic_of};
+
+use std::fmt;
 
 /// A kind of message. The first five go to the home, the others come from it.
 #[derive(Clone, Copy, PartialEq, Eq, Debug)]
@@ -16,32 +18,38 @@ pub enum Kind {
     Busy,
 }
 
-impl Kind {
-    /// The kind with an opcode, or none; `Kind::opcode` turns it back.
-    pub fn of(opcode: u8) -> Option<Kind>
-        ensures value { result ≡ kind_of opcode }
-        ensures back { IfSome result (λ kind. opcode_of kind ≡ opcode) }
-    {
+/// An opcode that is the number of no kind.
+#[derive(Clone, Copy, PartialEq, Eq, Debug)]
+pub struct UnknownOpcode(pub u8);
+
+impl TryFrom<u8> for Kind {
+    type Error = UnknownOpcode;
+
+    ghost try_from_gives = { Decodes };
+
+    /// The kind with an opcode, which `u8::from` turns back into it.
+    fn try_from(opcode: u8) -> Result<Kind, UnknownOpcode> {
         match opcode {
-            1 => Some(Kind::ReadRequest),
-            2 => Some(Kind::WriteRequest),
-            3 => Some(Kind::Replacement),
-            4 => Some(Kind::Update),
-            5 => Some(Kind::Acknowledgement),
-            6 => Some(Kind::ReadData),
-            7 => Some(Kind::WriteData),
-            8 => Some(Kind::Invalidate),
-            9 => Some(Kind::Busy),
-            _ => None,
+            1 => Ok(Kind::ReadRequest),
+            2 => Ok(Kind::WriteRequest),
+            3 => Ok(Kind::Replacement),
+            4 => Ok(Kind::Update),
+            5 => Ok(Kind::Acknowledgement),
+            6 => Ok(Kind::ReadData),
+            7 => Ok(Kind::WriteData),
+            8 => Ok(Kind::Invalidate),
+            9 => Ok(Kind::Busy),
+            _ => Err(UnknownOpcode(opcode)),
         }
     }
+}
 
-    /// Its opcode, which `Kind::of` turns back into it.
-    pub fn opcode(self) -> u8
-        ensures value { result ≡ opcode_of self }
-        ensures back { kind_of result ≡ Some self }
-    {
-        match self {
+impl From<Kind> for u8 {
+    ghost from_gives = { Encodes };
+
+    /// The opcode of a kind, which `Kind::try_from` turns back into it.
+    fn from(kind: Kind) -> u8 {
+        match kind {
             Kind::ReadRequest => 1,
             Kind::WriteRequest => 2,
             Kind::Replacement => 3,
@@ -53,7 +61,28 @@ impl Kind {
             Kind::Busy => 9,
         }
     }
+}
 
+impl fmt::Display for Kind {
+    ghost output = { λ kind. Some (mnemonic_of kind) };
+
+    /// Its short name, as listings show it.
+    fn fmt<W: fmt::Write>(&self, f: &mut fmt::Formatter<W>) -> fmt::Result {
+        f.write_str(match *self {
+            Kind::ReadRequest => "RREQ",
+            Kind::WriteRequest => "WREQ",
+            Kind::Replacement => "REPM",
+            Kind::Update => "UPDATE",
+            Kind::Acknowledgement => "ACKC",
+            Kind::ReadData => "RDATA",
+            Kind::WriteData => "WDATA",
+            Kind::Invalidate => "INV",
+            Kind::Busy => "BUSY",
+        })
+    }
+}
+
+impl Kind {
     /// Whether it carries a value.
     pub fn carries_value(self) -> bool
         ensures { result ≡ carries_value self }
@@ -83,22 +112,5 @@ impl Kind {
         ensures { result ≡ words_of self }
     {
         if self.carries_value() { 4 } else { 2 }
-    }
-
-    /// Its short name, as listings show it.
-    pub fn mnemonic(self) -> &'static str
-        ensures { result.now ≡ mnemonic_of self }
-    {
-        match self {
-            Kind::ReadRequest => "RREQ",
-            Kind::WriteRequest => "WREQ",
-            Kind::Replacement => "REPM",
-            Kind::Update => "UPDATE",
-            Kind::Acknowledgement => "ACKC",
-            Kind::ReadData => "RDATA",
-            Kind::WriteData => "WDATA",
-            Kind::Invalidate => "INV",
-            Kind::Busy => "BUSY",
-        }
     }
 }

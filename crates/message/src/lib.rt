@@ -1,4 +1,4 @@
-// What travels between the terminals and the home, and the numbers by which calls answer.
+// What travels between the terminals and the home, and why calls are refused.
 
 #![tactic(auto)]
 
@@ -6,11 +6,11 @@ ghost use Rattle.std.specs.Prelude.{◌≡◌};
 ghost use Rattle.message.specs.Kinds.{kind_of};
 ghost use Rattle.message.specs.Messages.{message_of, well_formed};
 
-mod codes;
 mod kinds;
+mod refusals;
 
-pub use codes::Code;
-pub use kinds::Kind;
+pub use kinds::{Kind, UnknownOpcode};
+pub use refusals::{Refusal, code_of};
 
 /// A message. Its opcode is a plain number, and its record any 32-bit number, so that a malformed message can be
 /// written down and refused.
@@ -27,7 +27,7 @@ impl Message {
         ensures { result ≡ message_of kind «record» value }
     {
         Message {
-            opcode: kind.opcode(),
+            opcode: u8::from(kind),
             record,
             value,
         }
@@ -37,7 +37,7 @@ impl Message {
     pub fn kind(self) -> Option<Kind>
         ensures { result ≡ kind_of self.opcode }
     {
-        Kind::of(self.opcode)
+        Kind::try_from(self.opcode).ok()
     }
 
     /// Whether a network takes it: an opcode of a kind, a record at most 63, and no value where its kind carries none.

@@ -1,11 +1,10 @@
 -- What a network means, and what its calls answer and leave.
-use Rattle.std.specs.Prelude.{ℕ, Bool, cond, List, [], ◌∷◌, ◌++◌, length, None, Option, nat_le, nat_lt}
+use Rattle.std.specs.Prelude.{ℕ, Bool, cond, List, [], ◌∷◌, ◌++◌, length, None, Option, nat_le, nat_lt, Ok, Err, is_ok}
 use Rattle.std.specs.List.{slice_get}
 use Rattle.message.specs.declared.Message.{Message}
-use Rattle.message.specs.declared.codes.Code.{Code}
-use Rattle.message.specs.declared.codes.Code.TheVariants.{Accepted, Full, Empty, NoSuchTerminal, Malformed}
+use Rattle.message.specs.Refusals.{Answer}
+use Rattle.message.specs.declared.refusals.Refusal.TheVariants.{Full, Empty, NoSuchTerminal, Malformed}
 use Rattle.message.specs.Checks.{given}
-use Rattle.message.specs.Codes.{accepted}
 use Rattle.message.specs.Lists.{with_list}
 use Rattle.message.specs.Messages.{well_formed}
 
@@ -32,26 +31,26 @@ abbrev pub oldest : Traffic → ℕ → Option Message
 oldest t l = cond (has_lane t l) (slice_get (t.waiting l) 0) None
 
 -- Put: is the lane there, then is the message well formed, then do fewer messages wait than the depth?
-unfoldable pub put_code : Traffic → ℕ → Message → Code
-put_code t l m =
-    given (has_lane t l) NoSuchTerminal
-    (given (well_formed m) Malformed
-    (given (nat_lt (length (t.waiting l)) t.depth) Full
-    Accepted))
+unfoldable pub put_answer : Traffic → ℕ → Message → Answer
+put_answer t l m =
+    given (has_lane t l) (Err NoSuchTerminal)
+    (given (well_formed m) (Err Malformed)
+    (given (nat_lt (length (t.waiting l)) t.depth) (Err Full)
+    (Ok tt)))
 
 -- If so, it joins the end of its lane; else nothing changes. The other lanes stay.
 unfoldable pub put_waiting : Traffic → ℕ → Message → ℕ → List Message
-put_waiting t l m = cond (accepted (put_code t l m)) (with_list t.waiting l (t.waiting l ++ m ∷ [])) t.waiting
+put_waiting t l m = cond (is_ok (put_answer t l m)) (with_list t.waiting l (t.waiting l ++ m ∷ [])) t.waiting
 
 abbrev pub after_put : Traffic → ℕ → Message → Traffic
 after_put t l m = with_waiting t (put_waiting t l m)
 
 -- Drop: is the lane there, then does a message wait?
-unfoldable pub drop_code : Traffic → ℕ → Code
-drop_code t l =
-    given (has_lane t l) NoSuchTerminal
-    (given (nat_le 1 (length (t.waiting l))) Empty
-    Accepted)
+unfoldable pub drop_answer : Traffic → ℕ → Answer
+drop_answer t l =
+    given (has_lane t l) (Err NoSuchTerminal)
+    (given (nat_le 1 (length (t.waiting l))) (Err Empty)
+    (Ok tt))
 
 -- All but the oldest.
 abbrev pub later : List Message → List Message
@@ -60,7 +59,7 @@ later (m ∷ ms) = ms
 
 -- If so, the oldest goes; else nothing changes. The other lanes stay.
 unfoldable pub drop_waiting : Traffic → ℕ → ℕ → List Message
-drop_waiting t l = cond (accepted (drop_code t l)) (with_list t.waiting l (later (t.waiting l))) t.waiting
+drop_waiting t l = cond (is_ok (drop_answer t l)) (with_list t.waiting l (later (t.waiting l))) t.waiting
 
 abbrev pub after_drop : Traffic → ℕ → Traffic
 after_drop t l = with_waiting t (drop_waiting t l)

@@ -3,9 +3,9 @@
 #![tactic(auto)]
 
 ghost use Rattle.std.specs.Prelude.{◌≡◌, ◌≤◌};
-ghost use Rattle.network.specs.Traffic.{Traffic, after_drop, after_put, drop_code, number_waiting, oldest, put_code};
+ghost use Rattle.network.specs.Traffic.{Traffic, after_drop, after_put, drop_answer, number_waiting, oldest, put_answer};
 
-use message::{Code, Message};
+use message::{Refusal, Message};
 
 /// A network has lanes, in each of which messages wait in the order in which they were put, and one depth for all of them.
 /// It means its traffic: how many lanes there are, their depth, and for each lane the list of what waits, oldest first.
@@ -33,13 +33,13 @@ pub trait Network {
 
     /// A message joins the end of a lane, unless the call is refused: there is no such lane, then the message is malformed,
     /// then the lane is full. A refusal changes nothing.
-    fn put(&mut self, lane: usize, message: Message) -> Code
-        ensures code { result ≡ put_code (traffic self.old) lane message }
+    fn put(&mut self, lane: usize, message: Message) -> Result<(), Refusal>
+        ensures answer { result ≡ put_answer (traffic self.old) lane message }
         ensures after { traffic self.new ≡ after_put (traffic self.old) lane message };
 
     /// The oldest message of a lane goes, unless the call is refused: there is no such lane, then the lane is empty. A refusal
     /// changes nothing.
-    fn drop_head(&mut self, lane: usize) -> Code
-        ensures code { result ≡ drop_code (traffic self.old) lane }
+    fn drop_head(&mut self, lane: usize) -> Result<(), Refusal>
+        ensures answer { result ≡ drop_answer (traffic self.old) lane }
         ensures after { traffic self.new ≡ after_drop (traffic self.old) lane };
 }

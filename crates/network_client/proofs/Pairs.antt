@@ -1,13 +1,13 @@
 -- Two puts to two lanes do not touch each other.
 use Rattle.std.proofs.Common.{◌≡◌, ℕ, List, [], ◌∷◌, ◌++◌, sym, refl, ap, ◌∙◌}
 use Rattle.message.specs.declared.Message.{Message}
-use Rattle.message.specs.declared.codes.Code.{Code}
+use Rattle.message.specs.Refusals.{Answer}
 use Rattle.network.proofs.Clients.{put_code_at, put_elsewhere, put_here}
-use Rattle.network.specs.Traffic.{Traffic, after_put, put_code}
+use Rattle.network.specs.Traffic.{Traffic, after_put, put_answer}
 use Rattle.network_client.specs.Pairs.{Apart}
 
-pub puts_apart : (before after : Traffic) (first : ℕ) (x : Message) (second : ℕ) (y : Message) (answers : Code × Code) → answers.0 ≡ put_code before first x
-    → answers.1 ≡ put_code (after_put before first x) second y → after ≡ after_put (after_put before first x) second y
+pub puts_apart : (before after : Traffic) (first : ℕ) (x : Message) (second : ℕ) (y : Message) (answers : Answer × Answer) → answers.0 ≡ put_answer before first x
+    → answers.1 ≡ put_answer (after_put before first x) second y → after ≡ after_put (after_put before first x) second y
     → (first ≡ second → ⊥) → Apart before after first x second y answers
 puts_apart before after first x second y answers one other is apart =
     let between = after_put before first x in

@@ -1,14 +1,14 @@
 -- What calls one after another answer and leave.
 use Rattle.std.specs.Prelude.{List, [], ◌∷◌}
-use Rattle.message.specs.declared.codes.Code.{Code}
-use Rattle.network.specs.Traffic.{Traffic, after_drop, after_put, drop_code, put_code}
+use Rattle.message.specs.Refusals.{Answer}
+use Rattle.network.specs.Traffic.{Traffic, after_drop, after_put, drop_answer, put_answer}
 use Rattle.network_client.specs.declared.Call.{Call}
 use Rattle.network_client.specs.declared.Call.TheVariants.{Put, DropHead}
 
 -- What one call answers.
-abbrev pub code_of : Traffic → Call → Code
-code_of t (Put l m) = put_code t l m
-code_of t (DropHead l) = drop_code t l
+abbrev pub code_of : Traffic → Call → Answer
+code_of t (Put l m) = put_answer t l m
+code_of t (DropHead l) = drop_answer t l
 
 -- The traffic after one call.
 abbrev pub after_call : Traffic → Call → Traffic

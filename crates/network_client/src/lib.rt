@@ -3,11 +3,11 @@
 #![tactic(auto)]
 
 ghost use Rattle.std.specs.Prelude.{◌≡◌, ◌≢◌};
-ghost use Rattle.network.specs.Traffic.{after_put, put_code};
+ghost use Rattle.network.specs.Traffic.{after_put, put_answer};
 ghost use Rattle.network_client.specs.Runs.{after_call, after_calls, code_of};
 ghost use Rattle.network_client.specs.Pairs.{Apart};
 
-use message::{Code, Message};
+use message::{Refusal, Message};
 use network::Network;
 
 /// A call that changes a network.
@@ -26,9 +26,9 @@ pub fn put_both<N: Network>(
     x: Message,
     second: usize,
     y: Message,
-) -> (Code, Code)
-    ensures first { result.0 ≡ put_code (N.traffic net.old) first x }
-    ensures second { result.1 ≡ put_code (after_put (N.traffic net.old) first x) second y }
+) -> (Result<(), Refusal>, Result<(), Refusal>)
+    ensures first { result.0 ≡ put_answer (N.traffic net.old) first x }
+    ensures second { result.1 ≡ put_answer (after_put (N.traffic net.old) first x) second y }
     ensures after { N.traffic net.new ≡ after_put (after_put (N.traffic net.old) first x) second y }
     ensures apart { (first ≢ second) → Apart (N.traffic net.old) (N.traffic net.new) first x second y result }
 {
@@ -38,8 +38,8 @@ pub fn put_both<N: Network>(
 }
 
 /// Makes one call.
-pub fn apply<N: Network>(net: &mut N, call: Call) -> Code
-    ensures code { result ≡ code_of (N.traffic net.old) call }
+pub fn apply<N: Network>(net: &mut N, call: Call) -> Result<(), Refusal>
+    ensures answer { result ≡ code_of (N.traffic net.old) call }
     ensures after { N.traffic net.new ≡ after_call (N.traffic net.old) call }
 {
     match call {

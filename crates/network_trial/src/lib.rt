@@ -4,7 +4,7 @@
 
 #[cfg(test)]
 mod tests {
-    use message::{Code, Message};
+    use message::{Refusal, Message};
     use network::Network;
     use packet_network::PacketNetwork;
     use ring::Ring;
@@ -14,12 +14,12 @@ mod tests {
     // What a network shows: its answer to a call, and then how many messages wait in the lane, and the oldest of them.
     #[derive(Clone, Copy, PartialEq, Eq, Debug)]
     struct Shown {
-        code: Code,
+        code: Refusal,
         waiting: usize,
         head: Option<Message>,
     }
 
-    fn view(code: Code, waiting: usize, head: Option<Message>) -> Shown {
+    fn view(code: Refusal, waiting: usize, head: Option<Message>) -> Shown {
         Shown {
             code,
             waiting,
@@ -64,22 +64,22 @@ mod tests {
     // From every offset of a lane of depth 2: a long, a short and a long packet, up to both refusals of a lane that is there.
     fn wraps<N: Network>(rt: &impl Abort, net: &mut N) {
         for _ in 0..8 {
-            assert_eq!(rt; put(net, 1, long()), view(Code::Accepted, 1, Some(long())));
-            assert_eq!(rt; put(net, 1, short()), view(Code::Accepted, 2, Some(long())));
-            assert_eq!(rt; put(net, 1, short()), view(Code::Full, 2, Some(long())));
-            assert_eq!(rt; drop_head(net, 1), view(Code::Accepted, 1, Some(short())));
-            assert_eq!(rt; put(net, 1, long()), view(Code::Accepted, 2, Some(short())));
-            assert_eq!(rt; drop_head(net, 1), view(Code::Accepted, 1, Some(long())));
-            assert_eq!(rt; drop_head(net, 1), view(Code::Accepted, 0, None));
-            assert_eq!(rt; drop_head(net, 1), view(Code::Empty, 0, None));
+            assert_eq!(rt; put(net, 1, long()), view(Ok(()), 1, Some(long())));
+            assert_eq!(rt; put(net, 1, short()), view(Ok(()), 2, Some(long())));
+            assert_eq!(rt; put(net, 1, short()), view(Err(Refusal::Full), 2, Some(long())));
+            assert_eq!(rt; drop_head(net, 1), view(Ok(()), 1, Some(short())));
+            assert_eq!(rt; put(net, 1, long()), view(Ok(()), 2, Some(short())));
+            assert_eq!(rt; drop_head(net, 1), view(Ok(()), 1, Some(long())));
+            assert_eq!(rt; drop_head(net, 1), view(Ok(()), 0, None));
+            assert_eq!(rt; drop_head(net, 1), view(Err(Refusal::Empty), 0, None));
         }
     }
 
     // Lanes that are not there, and every way to be malformed; nothing is left behind.
     fn refuses<N: Network>(rt: &impl Abort, net: &mut N) {
-        let none = view(Code::Malformed, 0, None);
-        assert_eq!(rt; put(net, 2, blank()), view(Code::NoSuchTerminal, 0, None));
-        assert_eq!(rt; drop_head(net, 2), view(Code::NoSuchTerminal, 0, None));
+        let none = view(Err(Refusal::Malformed), 0, None);
+        assert_eq!(rt; put(net, 2, blank()), view(Err(Refusal::NoSuchTerminal), 0, None));
+        assert_eq!(rt; drop_head(net, 2), view(Err(Refusal::NoSuchTerminal), 0, None));
         assert_eq!(rt; put(net, 0, blank()), none);
         assert_eq!(rt;
             put(
@@ -119,8 +119,8 @@ mod tests {
     #[test]
     fn slots(rt: HostRuntime) {
         let mut slots = [blank(); 4];
-        assert_eq!(rt; SlotNetwork::check(4, 2, 2), Code::Accepted);
-        assert_eq!(rt; SlotNetwork::check(3, 2, 2), Code::Unfit);
+        assert_eq!(rt; SlotNetwork::check(4, 2, 2), Ok(()));
+        assert_eq!(rt; SlotNetwork::check(3, 2, 2), Err(Refusal::Unfit));
         let mut net = SlotNetwork::new(&mut slots, 2, 2);
         wraps(&rt, &mut net);
         refuses(&rt, &mut net);
@@ -129,8 +129,8 @@ mod tests {
     #[test]
     fn packets(rt: HostRuntime) {
         let mut words = [7; 16];
-        assert_eq!(rt; PacketNetwork::check(16, 2, 2), Code::Accepted);
-        assert_eq!(rt; PacketNetwork::check(15, 2, 2), Code::Unfit);
+        assert_eq!(rt; PacketNetwork::check(16, 2, 2), Ok(()));
+        assert_eq!(rt; PacketNetwork::check(15, 2, 2), Err(Refusal::Unfit));
         let mut net = PacketNetwork::new(&mut words, 2, 2);
         wraps(&rt, &mut net);
         refuses(&rt, &mut net);
@@ -141,8 +141,8 @@ mod tests {
     fn no_slots(rt: HostRuntime) {
         let mut none: [u32; 0] = [];
         let mut ring = Ring::new(&mut none);
-        assert_eq!(rt; ring.put(1), Code::Full);
-        assert_eq!(rt; ring.discard(), Code::Empty);
+        assert_eq!(rt; ring.put(1), Err(Refusal::Full));
+        assert_eq!(rt; ring.discard(), Err(Refusal::Empty));
         assert_eq!(rt; ring.look(0), None);
     }
 

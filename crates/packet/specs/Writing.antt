@@ -1,10 +1,9 @@
 -- What the writer answers, and what its buffer then holds.
-use Rattle.std.specs.Prelude.{ℕ, Bool, false, cond, ◌&&◌, List, ◌++◌, length, drop, Some, None, Option, nat_le}
-use Rattle.message.specs.declared.codes.Code.{Code}
-use Rattle.message.specs.declared.codes.Code.TheVariants.{Accepted, Full, Malformed, WrongSource}
+use Rattle.std.specs.Prelude.{ℕ, Bool, false, cond, ◌&&◌, List, ◌++◌, length, drop, Some, None, Option, nat_le, Ok, Err, is_ok}
+use Rattle.message.specs.Refusals.{Answer}
+use Rattle.message.specs.declared.refusals.Refusal.TheVariants.{Full, Malformed, WrongSource}
 use Rattle.message.specs.declared.kinds.Kind.{Kind}
 use Rattle.message.specs.Checks.{given}
-use Rattle.message.specs.Codes.{accepted}
 use Rattle.message.specs.Kinds.{kind_of, words_of}
 use Rattle.message.specs.Messages.{formed_as}
 use Rattle.packet.specs.declared.Packet.{Packet}
@@ -19,16 +18,16 @@ abbrev pub sendable : Packet → Bool
 sendable p = sendable_as (kind_of p.message.opcode) p
 
 -- The writer's answer, given the room: is the message well formed, then does its source go with its kind, then is there room?
-abbrev pub code_as : Option Kind → Packet → ℕ → Code
-code_as None p room = Malformed
+abbrev pub code_as : Option Kind → Packet → ℕ → Answer
+code_as None p room = (Err Malformed)
 code_as (Some k) p room =
-    given (formed_as (Some k) p.message) Malformed
-    (given (source_fits k p.source) WrongSource
-    (given (nat_le (words_of k) room) Full
-    Accepted))
+    given (formed_as (Some k) p.message) (Err Malformed)
+    (given (source_fits k p.source) (Err WrongSource)
+    (given (nat_le (words_of k) room) (Err Full)
+    (Ok tt)))
 
-abbrev pub write_code : Packet → ℕ → Code
-write_code p room = code_as (kind_of p.message.opcode) p room
+abbrev pub write_answer : Packet → ℕ → Answer
+write_answer p room = code_as (kind_of p.message.opcode) p room
 
 -- A buffer with words laid over its front.
 abbrev pub laid_over : List ℕ → List ℕ → List ℕ
@@ -36,4 +35,4 @@ laid_over words buffer = words ++ drop (length words) buffer
 
 -- The buffer after the writer: it begins with the packet, where that is accepted, and is else as it was.
 abbrev pub written : Packet → List ℕ → List ℕ
-written p buffer = cond (accepted (write_code p (length buffer))) (laid_over (packet_words p) buffer) buffer
+written p buffer = cond (is_ok (write_answer p (length buffer))) (laid_over (packet_words p) buffer) buffer

@@ -2,7 +2,7 @@
 
 #![tactic(auto)]
 
-use message::{Code, Kind, Message};
+use message::{Refusal, Kind, Message};
 
 mod examples;
 mod fields;
@@ -22,7 +22,7 @@ pub struct Packet {
 /// What is wrong with words, and the index of the word where it shows.
 #[derive(Clone, Copy, PartialEq, Eq, Debug)]
 pub struct Fault {
-    pub code: Code,
+    pub code: Refusal,
     pub place: usize,
 }
 

@@ -4,7 +4,7 @@ ghost use Rattle.packet.specs.Reading.{Handed, answer, front_packet, packet_at, 
 
 use crate::fields::{fits_source, length_in, opcode_in, source_in, value_in};
 use crate::{Fault, Found, Packet};
-use message::{Code, Kind, Message};
+use message::{Refusal, Kind, Message};
 
 /// The packet at the front of words that begin at a place and end at another.
 fn read_front(front: &[u32], at: usize, end: usize) -> Result<Found<'_>, Fault>
@@ -13,7 +13,7 @@ fn read_front(front: &[u32], at: usize, end: usize) -> Result<Found<'_>, Fault>
     ensures handed { IfOk result (λ f. Handed front.now f) }
 {
     let missing = Fault {
-        code: Code::MissingWords,
+        refusal: Refusal::MissingWords,
         place: end,
     };
     let [head, ..] = front else {
@@ -21,13 +21,13 @@ fn read_front(front: &[u32], at: usize, end: usize) -> Result<Found<'_>, Fault>
     };
     let Some(kind) = Kind::of(opcode_in(*head)) else {
         return Err(Fault {
-            code: Code::UnknownOpcode,
+            refusal: Refusal::UnknownOpcode,
             place: at,
         });
     };
     if length_in(*head) != kind.words() {
         return Err(Fault {
-            code: Code::WrongLength,
+            refusal: Refusal::WrongLength,
             place: at,
         });
     }
@@ -39,13 +39,13 @@ fn read_front(front: &[u32], at: usize, end: usize) -> Result<Found<'_>, Fault>
     let source = source_in(*head);
     if !fits_source(kind, source) {
         return Err(Fault {
-            code: Code::WrongSource,
+            refusal: Refusal::WrongSource,
             place: at,
         });
     }
     if record > 63 {
         return Err(Fault {
-            code: Code::UnknownRecord,
+            refusal: Refusal::UnknownRecord,
             place: at + 1,
         });
     }
@@ -67,7 +67,7 @@ pub fn read(words: &[u32], at: usize) -> Result<Found<'_>, Fault>
     let end = words.len();
     if at >= end {
         return Err(Fault {
-            code: Code::MissingWords,
+            refusal: Refusal::MissingWords,
             place: end,
         });
     }

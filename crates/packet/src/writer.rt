@@ -1,13 +1,12 @@
 // The writer: one packet to the front of a buffer.
 ghost use Rattle.std.specs.Prelude.{◌≡◌, length, Ok};
-ghost use Rattle.message.specs.declared.codes.Code.TheVariants.{Accepted};
 ghost use Rattle.packet.specs.Layout.{packet_words};
 ghost use Rattle.packet.specs.Reading.{packet_at};
-ghost use Rattle.packet.specs.Writing.{sendable, write_code, written};
+ghost use Rattle.packet.specs.Writing.{sendable, write_answer, written};
 
 use crate::Packet;
 use crate::fields::{fits_source, header_of, high_half, low_half};
-use message::Code;
+use message::Refusal;
 
 impl Packet {
     /// Whether the writer takes it where there is room: its message is well formed, and its source goes with its kind.
@@ -31,23 +30,23 @@ impl Packet {
     }
 
     /// Writes it to the front of a buffer, where it is then read back; a refusal leaves the buffer as it was.
-    pub fn write(self, out: &mut [u32]) -> Code
-        ensures code { result ≡ write_code self (length out.old) }
+    pub fn write(self, out: &mut [u32]) -> Result<(), Refusal>
+        ensures answer { result ≡ write_answer self (length out.old) }
         ensures words { out.new ≡ written self out.old }
-        ensures back { result ≡ Accepted → packet_at out.new 0 ≡ Ok self }
+        ensures back { result ≡ Ok tt → packet_at out.new 0 ≡ Ok self }
     {
         let Packet { source, message } = self;
         let Some(kind) = message.kind() else {
-            return Code::Malformed;
+            return Err(Refusal::Malformed);
         };
         if !message.is_well_formed() {
-            return Code::Malformed;
+            return Err(Refusal::Malformed);
         }
         if !fits_source(kind, source) {
-            return Code::WrongSource;
+            return Err(Refusal::WrongSource);
         }
         if out.len() < kind.words() {
-            return Code::Full;
+            return Err(Refusal::Full);
         }
         out[0] = header_of(kind, source);
         out[1] = message.record;
@@ -55,6 +54,6 @@ impl Packet {
             out[2] = low_half(message.value);
             out[3] = high_half(message.value);
         }
-        Code::Accepted
+        Ok(())
     }
 }

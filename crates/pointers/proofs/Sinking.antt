@@ -1,8 +1,7 @@
 -- The pointers of a record go below: their union with the holders there becomes the holders there.
-use Rattle.std.proofs.Common.{◌≡◌, ℕ, ◌<◌, ◌≤◌, Bool, true, false, cond, ◌&&◌, ◌||◌, eqb, ltb, ◌⊎◌, List, [], ◌∷◌, sym, refl, ap, ◌∙◌, subst, inl, inr, ⊎_elim, arith}
+use Rattle.std.proofs.Common.{◌≡◌, ℕ, ◌<◌, ◌≤◌, Bool, true, false, cond, ◌&&◌, ◌||◌, eqb, ltb, ◌⊎◌, List, [], ◌∷◌, sym, refl, ap, ◌∙◌, subst, inl, inr, ⊎_elim, arith, is_ok}
 use mathlib.Core.Path.{fun_ext}
 use Rattle.std.proofs.lemmas.Bool.{cases_eq, cases_lt, cases_Bool, cond-true, cond-false, eq-eqb, ne_eqb, le-ltb, or_right}
-use Rattle.message.specs.Codes.{accepted}
 use Rattle.directory.specs.Sets.{tally}
 use Rattle.directory.specs.Directories.{View, Holders}
 use Rattle.directory.specs.Changes.{joined, added, with_holders}
@@ -61,7 +60,7 @@ sinks (x ∷ xs) v r h m l =
     (λ e. same ih (added_holder v r x h k e) (cons_in v x xs r h k ∙ same_more (union v xs r) x (or_right (pointed v xs r x) (v.holders r x) e)))
     (λ e. fresh ih k (added_accepted v r x (newcomer_accepted v r x h k (room k e))))
     (cases_Bool (v.holders r x)))
-    (λ k. same ih (added_refused v r x (ap accepted (terminal_refused v r x h k))) (cons_past v x xs r k))
+    (λ k. same ih (added_refused v r x (ap is_ok (terminal_refused v r x h k))) (cons_past v x xs r k))
     (cases_lt x v.terminals) where
       IH : Type 0
       IH = (w : View) → r < w.records → w.terminals ≤ 64 → tally (union w xs r) 64 ≤ w.limit → spilled w r xs ≡ with_holders w (sunk w xs r)

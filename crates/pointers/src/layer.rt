@@ -8,7 +8,7 @@ ghost use Rattle.std.proofs.Common.{rules};
 use crate::rows::Row;
 use crate::table::Table;
 use directory::Directory;
-use message::Code;
+use message::Refusal;
 
 /// Up to four holders of each record, over a directory that takes those that find no place. The holders are those of
 /// both; sizes and limit are those below.
@@ -72,26 +72,26 @@ impl<D: Directory> Directory for Pointers<D> {
 
     ghost sound = { Prim.search rules };
 
-    fn add(&mut self, r: usize, t: usize) -> Code {
+    fn add(&mut self, r: usize, t: usize) -> Result<(), Refusal> {
         if r >= self.below.records() {
-            return Code::NoSuchRecord;
+            return Err(Refusal::NoSuchRecord);
         }
         if t >= self.below.terminals() {
-            return Code::NoSuchTerminal;
+            return Err(Refusal::NoSuchTerminal);
         }
         if self.holds(r, t) {
-            return Code::Accepted;
+            return Ok(());
         }
         if self.count(r) >= self.below.limit() {
-            return Code::AtLimit;
+            return Err(Refusal::AtLimit);
         }
         self.place(r, t);
-        Code::Accepted
+        Ok(())
     }
 
-    fn clear(&mut self, r: usize) -> Code {
+    fn clear(&mut self, r: usize) -> Result<(), Refusal> {
         if r >= self.below.records() {
-            return Code::NoSuchRecord;
+            return Err(Refusal::NoSuchRecord);
         }
         self.table.put(r, Row::free());
         self.below.clear(r)

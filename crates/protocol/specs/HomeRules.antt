@@ -1,14 +1,13 @@
 -- What the home does with a message about record r from terminal t, rule by rule; v is the value that it carries.
-use Rattle.std.specs.Prelude.{ℕ, ◌-◌, Bool, cond, not, Some, None, Option, ◌==◌, nat_lt}
+use Rattle.std.specs.Prelude.{ℕ, ◌-◌, Bool, cond, not, Some, None, Option, ◌==◌, nat_lt, is_ok}
 use Rattle.protocol.specs.declared.CallCode.TheVariants.{Full, OutOfTurn}
 use Rattle.message.specs.declared.kinds.Kind.{Kind}
 use Rattle.message.specs.declared.kinds.Kind.TheVariants.{ReadRequest, WriteRequest, Replacement, Update, Acknowledgement, ReadData, WriteData, Invalidate, Busy}
 use Rattle.message.specs.Checks.{given}
-use Rattle.message.specs.Codes.{accepted}
 use Rattle.message.specs.Messages.{message_of}
 use Rattle.directory.specs.Sets.{tally}
 use Rattle.directory.specs.Directories.{View, count}
-use Rattle.directory.specs.Changes.{add_code, added, emptied}
+use Rattle.directory.specs.Changes.{add_answer, added, emptied}
 use Rattle.directory_client.specs.Clients.{alone, only_holder}
 use Rattle.protocol.specs.declared.Entry.{Entry}
 use Rattle.protocol.specs.declared.HomeState.{HomeState}
@@ -47,7 +46,7 @@ sole_holder s r = if_below s.terminals (only_holder s.directory r)
 abbrev pub read_granted : Scene → ℕ → ℕ → Ruling
 read_granted s r t =
     given (has_room s.down t) (refuses Full)
-    (cond (accepted (add_code s.directory r t))
+    (cond (is_ok (add_answer s.directory r t))
     (accepts s.entry (added s.directory r t).holders (sent s.down.waiting t (message_of ReadData r s.entry.value)))
     (accepts s.entry (added s.directory r t).holders (sent s.down.waiting t (message_of Busy r 0))))
 

@@ -1,7 +1,7 @@
 -- What put and discard answer, and the list that they leave.
-use Rattle.std.specs.Prelude.{ℕ, ◌+◌, Bool, cond, List, ◌++◌, length, drop, nat_le}
-use Rattle.message.specs.declared.codes.Code.{Code}
-use Rattle.message.specs.declared.codes.Code.TheVariants.{Accepted, Full, Empty}
+use Rattle.std.specs.Prelude.{ℕ, ◌+◌, Bool, cond, List, ◌++◌, length, drop, nat_le, Ok, Err}
+use Rattle.message.specs.Refusals.{Answer}
+use Rattle.message.specs.declared.refusals.Refusal.TheVariants.{Full, Empty}
 use Rattle.message.specs.Checks.{given}
 
 -- Whether new elements fit behind those that wait.
@@ -9,15 +9,15 @@ abbrev pub has_room : {X : Type 0} → ℕ → List X → List X → Bool
 has_room room waiting new = nat_le (length waiting + length new) room
 
 -- Put: is there room for all of them? They join the end, or nothing changes.
-abbrev pub put_code : {X : Type 0} → ℕ → List X → List X → Code
-put_code room waiting new = given (has_room room waiting new) Full Accepted
+abbrev pub put_answer : {X : Type 0} → ℕ → List X → List X → Answer
+put_answer room waiting new = given (has_room room waiting new) (Err Full) (Ok tt)
 
 abbrev pub put_list : {X : Type 0} → ℕ → List X → List X → List X
 put_list room waiting new = cond (has_room room waiting new) (waiting ++ new) waiting
 
 -- Discard: do so many wait? The oldest go, or nothing changes.
-abbrev pub discard_code : {X : Type 0} → ℕ → List X → Code
-discard_code k waiting = given (nat_le k (length waiting)) Empty Accepted
+abbrev pub discard_answer : {X : Type 0} → ℕ → List X → Answer
+discard_answer k waiting = given (nat_le k (length waiting)) (Err Empty) (Ok tt)
 
 abbrev pub discard_list : {X : Type 0} → ℕ → List X → List X
 discard_list k waiting = cond (nat_le k (length waiting)) (drop k waiting) waiting

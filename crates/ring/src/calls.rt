@@ -1,13 +1,13 @@
 // What can be asked of a ring: put, look, discard.
 ghost use Rattle.std.specs.Prelude.{◌≡◌, [], ◌∷◌, length};
 ghost use Rattle.std.specs.List.{slice_get};
-ghost use Rattle.ring.specs.Calls.{discard_code, discard_list, put_code, put_list};
+ghost use Rattle.ring.specs.Calls.{discard_answer, discard_list, put_answer, put_list};
 ghost use Rattle.ring.specs.Rings.{items, room};
 ghost use Rattle.ring.specs.Waiting.{waiting};
 
 use crate::spans::{look, slot_of};
 use crate::{Ring, Span};
-use message::Code;
+use message::Refusal;
 
 impl<'a, T: Copy> Ring<'a, T> {
     /// A ring where nothing waits. Its first element will lie in the first slot.
@@ -55,42 +55,42 @@ impl<'a, T: Copy> Ring<'a, T> {
     }
 
     /// An element joins the end, if there is room for it.
-    pub fn put(&mut self, x: T) -> Code
-        ensures code { result ≡ put_code (room self.old) (items self.old) (x ∷ []) }
+    pub fn put(&mut self, x: T) -> Result<(), Refusal>
+        ensures answer { result ≡ put_answer (room self.old) (items self.old) (x ∷ []) }
         ensures items { items self.new ≡ put_list (room self.old) (items self.old) (x ∷ []) }
         ensures room { room self.new ≡ room self.old }
         ensures lender { self.new.slots.ghost_name ≡ self.old.slots.ghost_name }
     {
         if self.count == self.slots.len() {
-            return Code::Full;
+            return Err(Refusal::Full);
         }
         let at = slot_of(self.slots.len(), self.start, self.count);
         self.slots[at] = x;
         self.count += 1;
-        Code::Accepted
+        Ok(())
     }
 
     /// Elements join the end in their order, if there is room for all of them.
-    pub fn put_all(&mut self, xs: &[T]) -> Code
-        ensures code { result ≡ put_code (room self.old) (items self.old) xs.now }
+    pub fn put_all(&mut self, xs: &[T]) -> Result<(), Refusal>
+        ensures answer { result ≡ put_answer (room self.old) (items self.old) xs.now }
         ensures items { items self.new ≡ put_list (room self.old) (items self.old) xs.now }
         ensures room { room self.new ≡ room self.old }
         ensures lender { self.new.slots.ghost_name ≡ self.old.slots.ghost_name }
     {
         if self.slots.len() - self.count < xs.len() {
-            return Code::Full;
+            return Err(Refusal::Full);
         }
         let mut i = 0;
         while i < xs.len() {
             let _ = self.put(xs[i]);
             i += 1;
         }
-        Code::Accepted
+        Ok(())
     }
 
     /// The oldest element goes, if there is one.
-    pub fn discard(&mut self) -> Code
-        ensures code { result ≡ discard_code 1 (items self.old) }
+    pub fn discard(&mut self) -> Result<(), Refusal>
+        ensures answer { result ≡ discard_answer 1 (items self.old) }
         ensures items { items self.new ≡ discard_list 1 (items self.old) }
         ensures room { room self.new ≡ room self.old }
         ensures lender { self.new.slots.ghost_name ≡ self.old.slots.ghost_name }
@@ -99,18 +99,18 @@ impl<'a, T: Copy> Ring<'a, T> {
     }
 
     /// The k oldest elements go, if so many wait.
-    pub fn discard_many(&mut self, k: usize) -> Code
-        ensures code { result ≡ discard_code k (items self.old) }
+    pub fn discard_many(&mut self, k: usize) -> Result<(), Refusal>
+        ensures answer { result ≡ discard_answer k (items self.old) }
         ensures items { items self.new ≡ discard_list k (items self.old) }
         ensures room { room self.new ≡ room self.old }
         ensures lender { self.new.slots.ghost_name ≡ self.old.slots.ghost_name }
     {
         if self.count < k {
-            return Code::Empty;
+            return Err(Refusal::Empty);
         }
         let front = self.slots.len() - self.start;
         self.start = if k < front { self.start + k } else { k - front };
         self.count -= k;
-        Code::Accepted
+        Ok(())
     }
 }

@@ -1,6 +1,6 @@
 -- Words that are walked, and whose packets are written again.
 use Rattle.std.specs.Prelude.{ℕ, cond, List, length, Some, None, Ok, Err, Result, nat_le}
-use Rattle.message.specs.declared.codes.Code.TheVariants.{Full}
+use Rattle.message.specs.declared.refusals.Refusal.TheVariants.{Full}
 use Rattle.message.specs.Checks.{given}
 use Rattle.packet.specs.declared.Fault.{Fault}
 use Rattle.packet.specs.Streams.{stream, walk}
@@ -9,7 +9,7 @@ use Rattle.packet.specs.Writing.{laid_over}
 -- The answer of writing words again: the buffer is at least as long, the walk comes to the end, and this many packets were found.
 abbrev pub rewrite_answer : List ℕ → ℕ → Result ℕ Fault
 rewrite_answer words room =
-    given (nat_le (length words) room) (Err (record { code = Full; place = room }))
+    given (nat_le (length words) room) (Err (record { code = (Err Full); place = room }))
     (elim (walk words).fault [ None ↦ Ok (length (walk words).packets) | Some f ↦ Err f ])
 
 -- The buffer then: it begins with the packets that the walk found, unless it was too short.

@@ -3,19 +3,18 @@
 #![tactic(auto)]
 
 ghost use Rattle.std.specs.Prelude.{◌≡◌, ◌-◌, ◌≤◌, ◌++◌, length, take, drop, OnOk};
-ghost use Rattle.message.specs.declared.codes.Code.TheVariants.{Accepted};
 ghost use Rattle.packet.specs.Streams.{ended, stream, walk};
 ghost use Rattle.stream.specs.Rewriting.{rewrite_answer, rewritten};
-ghost use Rattle.stream.specs.Sending.{stream_code, taken, written_all};
-ghost use Rattle.packet.specs.Writing.{laid_over, write_code, written};
+ghost use Rattle.stream.specs.Sending.{stream_answer, taken, written_all};
+ghost use Rattle.packet.specs.Writing.{laid_over, write_answer, written};
 
-use message::Code;
+use message::Refusal;
 use packet::{Fault, Packet, Reader};
 
 /// Writes a packet at a place of a buffer.
-fn write_at(packet: Packet, out: &mut [u32], at: usize) -> Code
+fn write_at(packet: Packet, out: &mut [u32], at: usize) -> Result<(), Refusal>
     requires { at ≤ length out.old }
-    ensures code { result ≡ write_code packet (length out.old - at) }
+    ensures answer { result ≡ write_answer packet (length out.old - at) }
     ensures words { out.new ≡ take at out.old ++ written packet (drop at out.old) }
 {
     packet.write(&mut out[at..])
@@ -23,11 +22,11 @@ fn write_at(packet: Packet, out: &mut [u32], at: usize) -> Code
 
 /// Writes packets one after another to the front of a buffer, up to the first that is refused. It answers why it stopped
 /// (accepted: it took them all) and how many words it wrote; a walk over these words finds the packets that it took.
-pub fn write_all(packets: &[Packet], out: &mut [u32]) -> (Code, usize)
-    ensures code { result.0 ≡ stream_code packets.now (length out.old) }
+pub fn write_all(packets: &[Packet], out: &mut [u32]) -> (Refusal, usize)
+    ensures answer { result.0 ≡ stream_answer packets.now (length out.old) }
     ensures count { result.1 ≡ length (stream (taken packets.now (length out.old))) }
     ensures words { out.new ≡ written_all packets.now out.old }
-    ensures all { result.0 ≡ Accepted → taken packets.now (length out.old) ≡ packets.now }
+    ensures all { result.0 ≡ Ok tt → taken packets.now (length out.old) ≡ packets.now }
     ensures back { walk (take result.1 out.new) ≡ ended (taken packets.now (length out.old)) }
 {
     let mut at = 0;
@@ -38,7 +37,7 @@ pub fn write_all(packets: &[Packet], out: &mut [u32]) -> (Code, usize)
         }
         at += packet.size();
     }
-    (Code::Accepted, at)
+    (Ok(()), at)
 }
 
 /// Walks words and writes the packets that it finds again, one after another, to the front of a buffer that is at least as
@@ -51,7 +50,7 @@ pub fn rewrite(words: &[u32], out: &mut [u32]) -> Result<usize, Fault>
 {
     if out.len() < words.len() {
         return Err(Fault {
-            code: Code::Full,
+            refusal: Refusal::Full,
             place: out.len(),
         });
     }

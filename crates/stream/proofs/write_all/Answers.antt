@@ -7,7 +7,7 @@ returns-then-not-is_accepted c =
     let sent =
     sending_stopped c.args.packets.now c.args.out.now c.loop-packet.out c.write_at-code.new.out c.loop-packet.packet-index c.loop-packet.at c.write_at-code.result
     c.loop-packet.invariant c.loop-packet-test.true (search rules) (search rules) (search rules) in
-    record { code = sent.code; count = sent.count; words = sent.words; all = sent.all; back = sent.back }
+    record { answer = sent.code; count = sent.count; words = sent.words; all = sent.all; back = sent.back }
 
 pub loop-packet-preserved : goal.loop-packet-preserved
 loop-packet-preserved c =
@@ -17,4 +17,4 @@ loop-packet-preserved c =
 pub returns : goal.returns
 returns c =
     let sent = sending_done _ _ _ _ _ c.loop-packet.invariant c.loop-packet-test.false in
-    record { code = sent.code; count = sent.count; words = sent.words; all = sent.all; back = sent.back }
+    record { answer = sent.code; count = sent.count; words = sent.words; all = sent.all; back = sent.back }

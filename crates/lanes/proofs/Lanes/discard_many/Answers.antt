@@ -1,5 +1,5 @@
 use Rattle.std.proofs.Common.{◌*◌, ◌≤◌, length, refl, arith, rules}
-use Rattle.ring.specs.Calls.{discard_code, discard_list}
+use Rattle.ring.specs.Calls.{discard_answer, discard_list}
 use Rattle.lanes.proofs.Lands.{landed}
 use Rattle.lanes.proofs.Parts.{ends_within}
 use Rattle.lanes.proofs.Lanes.discard_many.Goals as goal
@@ -20,6 +20,6 @@ pub returns : goal.returns
 returns g c =
     let lanes = c.args.self.now in
     let is = landed lanes.slots.now lanes.spans lanes.count lanes.size c.args.lane c.discard_in-code.new.part c.discard_in-code.result.1 c.discard_in-code.result.0
-    (discard_code c.args.k) (discard_list c.args.k)
-    (omega arith) (omega arith) (omega arith) c.discard_in-code.auto.part c.discard_in-code.ensures.code c.discard_in-code.ensures.held in
-    record { standing = (omega arith, omega arith, is.room); code = is.answers; held = is.holds; count = refl; size = refl; lender = refl }
+    (discard_answer c.args.k) (discard_list c.args.k)
+    (omega arith) (omega arith) (omega arith) c.discard_in-code.auto.part c.discard_in-code.ensures.answer c.discard_in-code.ensures.held in
+    record { standing = (omega arith, omega arith, is.room); answer = is.answers; held = is.holds; count = refl; size = refl; lender = refl }

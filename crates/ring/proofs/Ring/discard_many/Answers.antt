@@ -13,7 +13,7 @@ returns-then-self-k g c =
     let long = length_waiting ring.slots.now ring.start ring.count ring.within.0 ring.within.1 in
     let few : length (items ring) < c.args.k = omega arith in
     let did = discard_refused c.args.k (items ring) few in
-    record { code = did.code; items = did.items; room = refl; lender = refl }
+    record { answer = did.code; items = did.items; room = refl; lender = refl }
 
 pub returns : goal.returns
 returns g c =
@@ -31,4 +31,4 @@ returns g c =
       | else-k-front w ↦ ap (λ start. waiting slots start (ring.count - k)) w.self-is
           ∙ goes_high slots ring.start ring.count k ring.within.0 ring.within.1 some w.if-k-front.false
     ] in
-    record { code = did.code; items = gone ∙ did.items; room = refl; lender = refl }
+    record { answer = did.code; items = gone ∙ did.items; room = refl; lender = refl }

@@ -12,7 +12,7 @@ returns-then-self g c =
     let long = length_waiting ring.slots.now ring.start ring.count ring.within.0 ring.within.1 in
     let full : room ring < length (items ring) + 1 = omega arith in
     let did = put_refused (room ring) (items ring) (c.args.x ∷ []) full in
-    record { code = did.code; items = did.items; room = refl; lender = refl }
+    record { answer = did.code; items = did.items; room = refl; lender = refl }
 
 pub returns : goal.returns
 returns g c =
@@ -23,7 +23,7 @@ returns g c =
     let space : ring.count < length slots = omega arith in
     let did = put_in (room ring) (items ring) (c.args.x ∷ []) free in
     record {
-      code = did.code;
+      answer = did.code;
       items =
           ap (λ at. waiting (set slots at c.args.x) ring.start (ring.count + 1)) c.slot_of-at.ensures.value
           ∙ joins slots ring.start ring.count c.args.x ring.within.0 space

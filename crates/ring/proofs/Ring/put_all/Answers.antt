@@ -12,7 +12,7 @@ returns-then-self-xs g c =
     let long = length_waiting ring.slots.now ring.start ring.count ring.within.0 ring.within.1 in
     let full : room ring < length (items ring) + length c.args.xs.now = omega arith in
     let did = put_refused (room ring) (items ring) c.args.xs.now full in
-    record { code = did.code; items = did.items; room = refl; lender = refl }
+    record { answer = did.code; items = did.items; room = refl; lender = refl }
 
 pub loop-i-init : goal.loop-i-init
 loop-i-init g c =
@@ -44,7 +44,7 @@ returns g c =
     let old = items c.args.self.now in
     let did = put_in (room c.args.self.now) old c.args.xs.now inv.4 in
     record {
-      code = did.code;
+      answer = did.code;
       items = inv.1 ∙ ap (λ zs. old ++ zs) (take_all c.loop-i.i c.args.xs.now c.loop-i-test.false) ∙ did.items;
       room = inv.2;
       lender = inv.3;

@@ -1,7 +1,6 @@
-use Rattle.std.proofs.Common.{◌≡◌, ◌<◌, length, sym, ap, ◌∙◌, arith}
-use Rattle.message.specs.declared.codes.Code.TheVariants.{Accepted}
+use Rattle.std.proofs.Common.{◌≡◌, ◌<◌, length, sym, ap, ◌∙◌, arith, Ok}
 use Rattle.directory.specs.Directories.{View}
-use Rattle.directory.specs.Changes.{add_code, with_holders}
+use Rattle.directory.specs.Changes.{add_answer, with_holders}
 use Rattle.directory.proofs.Adding.{added_accepted}
 use Rattle.full_map.specs.Maps.{map_view}
 use Rattle.full_map.proofs.Steps.{set_narrow, set_unused, or_word, or_word_lt, map_accepts}
@@ -12,10 +11,10 @@ returns c =
     let m = c.args.self.now in
     let l : c.args.r < length m.words = omega arith in
     let v : View = map_view m in
-    let e : add_code v c.args.r c.args.t ≡ Accepted =
+    let e : add_answer v c.args.r c.args.t ≡ Ok tt =
     map_accepts m.words m.records m.terminals c.args.r c.args.t (omega arith) (omega arith) (omega arith) in
     record {
-      code = sym e;
+      answer = sym e;
       after = ap (with_holders v) (or_word m.words c.args.r c.args.t l (omega arith)) ∙ sym (added_accepted v c.args.r c.args.t e);
     }
 

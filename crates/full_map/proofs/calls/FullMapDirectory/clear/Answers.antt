@@ -13,7 +13,7 @@ returns c =
     let v : View = map_view m in
     let h : c.args.r < v.records = omega arith in
     record {
-      code = sym (clear_accepted v c.args.r h);
+      answer = sym (clear_accepted v c.args.r h);
       after = ap (with_holders v) (zero_word m.words c.args.r l) ∙ sym (cleared_accepted v c.args.r h);
     }
 

@@ -13,7 +13,7 @@ returns-then-lane-lanes c =
     let t = traffic_of c.args.self.now in
     let past : t.lanes ≤ c.args.lane = omega (arith, c.lanes.ensures.value) in
     let did = drop_absent t c.args.lane past in
-    record { code = did.code; after = same_traffic t (after_drop t c.args.lane) refl refl did.waiting }
+    record { answer = did.code; after = same_traffic t (after_drop t c.args.lane) refl refl did.waiting }
 
 pub returns-then-waiting-eq0 : goal.returns-then-waiting-eq0
 returns-then-waiting-eq0 c =
@@ -22,7 +22,7 @@ returns-then-waiting-eq0 c =
     let there : c.args.lane < t.lanes = omega (arith, c.lanes.ensures.value) in
     let none : length (t.waiting c.args.lane) < 1 = omega (arith, net.counted c.args.lane there) in
     let did = drop_none t c.args.lane there none in
-    record { code = did.code; after = same_traffic t (after_drop t c.args.lane) refl refl did.waiting }
+    record { answer = did.code; after = same_traffic t (after_drop t c.args.lane) refl refl did.waiting }
 
 pub invariant_of-self : goal.invariant_of-self
 invariant_of-self c =
@@ -50,4 +50,4 @@ returns c =
     let there : c.args.lane < net.lanes.count = omega (arith, c.lanes.ensures.value) in
     let some : 1 ≤ get_or net.counts c.args.lane 0 = omega arith in
     let did = (drop_net net (held c.discard_many.new.self) c.args.lane _ there (omega arith) some c.oldest_size-size.ensures gone.held).did in
-    record { code = did.code; after = same_traffic _ (after_drop (traffic_of net) c.args.lane) gone.count refl did.waiting }
+    record { answer = did.code; after = same_traffic _ (after_drop (traffic_of net) c.args.lane) gone.count refl did.waiting }

@@ -13,14 +13,14 @@ returns-then-lane-lanes c =
     let t = traffic_of c.args.self.now in
     let past : t.lanes ≤ c.args.lane = omega (arith, c.lanes.ensures.value) in
     let did = put_absent t c.args.lane c.args.message past in
-    record { code = did.code; after = same_traffic t (after_put t c.args.lane c.args.message) refl refl did.waiting }
+    record { answer = did.code; after = same_traffic t (after_put t c.args.lane c.args.message) refl refl did.waiting }
 
 pub returns-then-not-is_well_formed : goal.returns-then-not-is_well_formed
 returns-then-not-is_well_formed c =
     let t = traffic_of c.args.self.now in
     let there : c.args.lane < t.lanes = omega (arith, c.lanes.ensures.value) in
     let did = put_malformed t c.args.lane c.args.message there (sym c.if-not-is_well_formed.ensures) in
-    record { code = did.code; after = same_traffic t (after_put t c.args.lane c.args.message) refl refl did.waiting }
+    record { answer = did.code; after = same_traffic t (after_put t c.args.lane c.args.message) refl refl did.waiting }
 
 pub returns-then-count-depth : goal.returns-then-count-depth
 returns-then-count-depth c =
@@ -29,7 +29,7 @@ returns-then-count-depth c =
     let there : c.args.lane < t.lanes = omega (arith, c.lanes.ensures.value) in
     let full : t.depth ≤ length (t.waiting c.args.lane) = omega (arith, c.depth.ensures.value, net.counted c.args.lane there) in
     let did = put_full t c.args.lane c.args.message there (sym c.if-not-is_well_formed.ensures) full in
-    record { code = did.code; after = same_traffic t (after_put t c.args.lane c.args.message) refl refl did.waiting }
+    record { answer = did.code; after = same_traffic t (after_put t c.args.lane c.args.message) refl refl did.waiting }
 
 pub invariant_of-self : goal.invariant_of-self
 invariant_of-self c =
@@ -57,4 +57,4 @@ returns c =
     let there : c.args.lane < net.lanes.count = omega (arith, c.lanes.ensures.value) in
     let room : get_or net.counts c.args.lane 0 < net.depth = omega (arith, c.depth.ensures.value) in
     let did = (put_net net (held c.put_all.new.self) c.args.lane c.args.message _ there (omega arith) (sym c.if-not-is_well_formed.ensures) room c.words_in-size.ensures.words put.held).did in
-    record { code = did.code; after = same_traffic _ (after_put (traffic_of net) c.args.lane c.args.message) put.count refl did.waiting }
+    record { answer = did.code; after = same_traffic _ (after_put (traffic_of net) c.args.lane c.args.message) put.count refl did.waiting }

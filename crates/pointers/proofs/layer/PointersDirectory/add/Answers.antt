@@ -1,7 +1,6 @@
-use Rattle.std.proofs.Common.{◌≡◌, ◌<◌, ◌≤◌, length, sym, ◌∙◌, ap₂, arith}
-use Rattle.message.specs.declared.codes.Code.TheVariants.{Accepted}
+use Rattle.std.proofs.Common.{◌≡◌, ◌<◌, ◌≤◌, length, sym, ◌∙◌, ap₂, arith, Ok}
 use Rattle.directory.specs.Directories.{View, count}
-use Rattle.directory.specs.Changes.{add_code}
+use Rattle.directory.specs.Changes.{add_answer}
 use Rattle.directory.proofs.Adding.{newcomer_accepted, added_accepted}
 use Rattle.pointers.specs.Layers.{over}
 use Rattle.pointers.proofs.Stores.{places}
@@ -18,9 +17,9 @@ returns g c =
     let l : c.args.r < length p.table.rows = omega (arith, p.table.size) in
     let room : count o c.args.r < v.limit = omega arith in
     let few : count o c.args.r ≤ v.limit = omega arith in
-    let e : add_code o c.args.r c.args.t ≡ Accepted = newcomer_accepted o c.args.r c.args.t h k room in
+    let e : add_answer o c.args.r c.args.t ≡ Ok tt = newcomer_accepted o c.args.r c.args.t h k room in
     record {
-      code = sym e;
+      answer = sym e;
       after = ap₂ over c.place.ensures.rows c.place.ensures.below
           ∙ places p.table.rows v c.args.r c.args.t l h k s.most_terminals few
           ∙ sym (added_accepted o c.args.r c.args.t e);

@@ -12,7 +12,7 @@ returns g c =
     let h : c.args.r < v.records = omega arith in
     let l : c.args.r < length p.table.rows = omega (arith, p.table.size) in
     record {
-      code = c.clear.ensures.code;
+      answer = c.clear.ensures.answer;
       after = ap₂ over (c.put.ensures.rows ∙ ap (set p.table.rows c.args.r) c.free.ensures.value) c.clear.ensures.after
           ∙ clears p.table.rows v c.args.r l h s.most_terminals;
     }
