@@ -25,3 +25,6 @@ code_of (Err refusal) = number refusal
 -- What a call answers that hands nothing back: that it was accepted, or why it was refused.
 abbrev pub Answer : Type 0
 Answer = Result (Unit {0}) Refusal
+
+abbrev pub accepted : Answer
+accepted = Ok tt

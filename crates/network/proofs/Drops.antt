@@ -1,6 +1,7 @@
 -- What a drop answers and leaves, case by case: for whoever makes a network.
-use Rattle.std.proofs.Common.{ℕ, ◌<◌, ◌≤◌, length, Ok, Err}
+use Rattle.std.proofs.Common.{ℕ, ◌<◌, ◌≤◌, length, Err}
 use Rattle.std.proofs.lemmas.Bool.{le-leb, le-ltb, lt-leb, lt-ltb}
+use Rattle.message.specs.Refusals.{accepted}
 use Rattle.message.specs.declared.refusals.Refusal.TheVariants.{Empty, NoSuchTerminal}
 use Rattle.message.specs.Lists.{with_list}
 use Rattle.network.specs.Traffic.{Traffic, drop_answer, drop_waiting, later}
@@ -18,7 +19,7 @@ drop_none t l there few =
     record { code = rw (yes, no); waiting = rw (yes, no) }
 
 pub drop_oldest : (t : Traffic) (l : ℕ) → l < t.lanes → 1 ≤ length (t.waiting l)
-    → Did (Ok tt) (drop_answer t l) (with_list t.waiting l (later (t.waiting l))) (drop_waiting t l)
+    → Did accepted (drop_answer t l) (with_list t.waiting l (later (t.waiting l))) (drop_waiting t l)
 unfolding drop_answer drop_waiting
 drop_oldest t l there some =
     let yes = lt-ltb l t.lanes there in

@@ -1,8 +1,8 @@
 -- What a put answers and leaves, case by case: for whoever makes a network.
-use Rattle.std.proofs.Common.{◌≡◌, ℕ, ◌<◌, ◌≤◌, true, false, List, [], ◌∷◌, ◌++◌, length, Ok, Err}
+use Rattle.std.proofs.Common.{◌≡◌, ℕ, ◌<◌, ◌≤◌, true, false, List, [], ◌∷◌, ◌++◌, length, Err}
 use Rattle.std.proofs.lemmas.Bool.{le-ltb, lt-ltb}
 use Rattle.message.specs.declared.Message.{Message}
-use Rattle.message.specs.Refusals.{Answer}
+use Rattle.message.specs.Refusals.{Answer, accepted}
 use Rattle.message.specs.declared.refusals.Refusal.TheVariants.{Full, NoSuchTerminal, Malformed}
 use Rattle.message.specs.Lists.{with_list}
 use Rattle.message.specs.Messages.{well_formed}
@@ -31,7 +31,7 @@ put_full t l m there good full =
     record { code = rw (yes, good, no); waiting = rw (yes, good, no) }
 
 pub put_in : (t : Traffic) (l : ℕ) (m : Message) → l < t.lanes → well_formed m ≡ true → length (t.waiting l) < t.depth
-    → Did (Ok tt) (put_answer t l m) (with_list t.waiting l (t.waiting l ++ m ∷ [])) (put_waiting t l m)
+    → Did accepted (put_answer t l m) (with_list t.waiting l (t.waiting l ++ m ∷ [])) (put_waiting t l m)
 unfolding put_answer put_waiting
 put_in t l m there good room =
     let yes = lt-ltb l t.lanes there in

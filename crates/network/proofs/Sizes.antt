@@ -1,16 +1,16 @@
 -- What a passed check of sizes says, and what a new network means.
-use Rattle.std.proofs.Common.{◌≡◌, ℕ, ◌*◌, ◌≤◌, Bool, true, false, ◌&&◌, leb, List, [], refl, ap, ◌∙◌, arith, Ok, Err}
+use Rattle.std.proofs.Common.{◌≡◌, ℕ, ◌*◌, ◌≤◌, Bool, true, false, ◌&&◌, leb, List, [], refl, ap, ◌∙◌, arith, Err}
 use mathlib.Core.Path.{fun_ext}
 use Rattle.std.proofs.lemmas.Bool.{and_parts, leb-true}
 use Rattle.message.specs.declared.Message.{Message}
-use Rattle.message.specs.Refusals.{Answer}
+use Rattle.message.specs.Refusals.{Answer, accepted}
 use Rattle.message.specs.declared.refusals.Refusal.TheVariants.{Unfit}
 use Rattle.message.specs.Checks.{given}
 use Rattle.network.specs.Sizes.{check_answer, no_traffic}
 use Rattle.network.specs.Traffic.{Traffic}
 
 -- A check that was passed.
-passed : (test : Bool) (follows : Answer) → given test (Err Unfit) follows ≡ Ok tt → (test ≡ true) × (follows ≡ Ok tt)
+passed : (test : Bool) (follows : Answer) → given test (Err Unfit) follows ≡ accepted → (test ≡ true) × (follows ≡ accepted)
 passed true follows took = (refl, took)
 passed false follows took = absurd (let z : ◌≡◌ {A = ℕ} 0 1 = cc in omega arith)
 
@@ -21,7 +21,7 @@ pub record Sizes (lanes depth each room : ℕ) : Type 0 where
   pub small_depth : depth ≤ 255
   pub enough : lanes * each ≤ room
 
-pub checked : (lanes depth each room : ℕ) → check_answer lanes depth each room ≡ Ok tt → Sizes lanes depth each room
+pub checked : (lanes depth each room : ℕ) → check_answer lanes depth each room ≡ accepted → Sizes lanes depth each room
 checked lanes depth each room took =
     let one = passed (leb 1 lanes && leb lanes 64) _ took in
     let two = passed (leb 1 depth && leb depth 255) _ one.1 in

@@ -1,6 +1,6 @@
 -- The sizes that a network is made with.
-use Rattle.std.specs.Prelude.{ℕ, ◌*◌, ◌&&◌, [], nat_le, Ok, Err}
-use Rattle.message.specs.Refusals.{Answer}
+use Rattle.std.specs.Prelude.{ℕ, ◌*◌, ◌&&◌, [], nat_le, Err}
+use Rattle.message.specs.Refusals.{Answer, accepted}
 use Rattle.message.specs.declared.refusals.Refusal.TheVariants.{Unfit}
 use Rattle.message.specs.Checks.{given}
 use Rattle.network.specs.Traffic.{Traffic}
@@ -11,7 +11,7 @@ check_answer lanes depth each room =
     given (nat_le 1 lanes && nat_le lanes 64) (Err Unfit)
     (given (nat_le 1 depth && nat_le depth 255) (Err Unfit)
     (given (nat_le (lanes * each) room) (Err Unfit)
-    (Ok tt)))
+    accepted))
 
 -- A new network: nothing waits.
 abbrev pub no_traffic : ℕ → ℕ → Traffic

@@ -1,8 +1,8 @@
 -- What a network means, and what its calls answer and leave.
-use Rattle.std.specs.Prelude.{ℕ, Bool, cond, List, [], ◌∷◌, ◌++◌, length, None, Option, nat_le, nat_lt, Ok, Err, is_ok}
+use Rattle.std.specs.Prelude.{ℕ, Bool, cond, List, [], ◌∷◌, ◌++◌, length, None, Option, nat_le, nat_lt, Err, is_ok}
 use Rattle.std.specs.List.{slice_get}
 use Rattle.message.specs.declared.Message.{Message}
-use Rattle.message.specs.Refusals.{Answer}
+use Rattle.message.specs.Refusals.{Answer, accepted}
 use Rattle.message.specs.declared.refusals.Refusal.TheVariants.{Full, Empty, NoSuchTerminal, Malformed}
 use Rattle.message.specs.Checks.{given}
 use Rattle.message.specs.Lists.{with_list}
@@ -36,7 +36,7 @@ put_answer t l m =
     given (has_lane t l) (Err NoSuchTerminal)
     (given (well_formed m) (Err Malformed)
     (given (nat_lt (length (t.waiting l)) t.depth) (Err Full)
-    (Ok tt)))
+    accepted))
 
 -- If so, it joins the end of its lane; else nothing changes. The other lanes stay.
 unfoldable pub put_waiting : Traffic → ℕ → Message → ℕ → List Message
@@ -50,7 +50,7 @@ unfoldable pub drop_answer : Traffic → ℕ → Answer
 drop_answer t l =
     given (has_lane t l) (Err NoSuchTerminal)
     (given (nat_le 1 (length (t.waiting l))) (Err Empty)
-    (Ok tt))
+    accepted)
 
 -- All but the oldest.
 abbrev pub later : List Message → List Message

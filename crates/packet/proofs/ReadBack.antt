@@ -1,6 +1,7 @@
 -- What is written is read back.
 use Rattle.std.proofs.Common.{◌≡◌, ℕ, ◌+◌, ◌*◌, ◌/◌, ◌%◌, ◌^◌, ◌<◌, Bool, true, false, cond, ◌||◌, eqb, leb, List, ◌∷◌, ◌++◌, length, Some, None, Ok, Option, refl, ap, ◌∙◌, arith}
 use Rattle.std.proofs.lemmas.Bool.{and_parts, eqb-true, le-leb}
+use Rattle.message.specs.Refusals.{accepted}
 use Rattle.message.specs.declared.kinds.Kind.{Kind}
 use Rattle.message.specs.Kinds.{kind_of, opcode_of, carries_value, words_of}
 use Rattle.message.specs.Messages.{message_of, formed_as}
@@ -54,5 +55,5 @@ pub written_read : (p : Packet) (at end : ℕ) (rest : List ℕ) → sendable p 
 written_read p at end rest can = written_as (kind_of p.message.opcode) p at end rest refl can
 
 -- What is accepted is read back at the front of its buffer.
-pub accepted_read : (p : Packet) (buffer : List ℕ) → write_answer p (length buffer) ≡ Ok tt → packet_at (written p buffer) 0 ≡ Ok p
+pub accepted_read : (p : Packet) (buffer : List ℕ) → write_answer p (length buffer) ≡ accepted → packet_at (written p buffer) 0 ≡ Ok p
 accepted_read p buffer took = rw took (written_read p 0 _ _ (accepted_sendable p (length buffer) took))

@@ -1,6 +1,6 @@
 -- What the reader answers: the packet at a place among words, or the first fault there.
 use Rattle.std.specs.Prelude.{◌≡◌, ℕ, ◌+◌, ◌≤◌, true, cond, List, length, take, drop, Some, None, Ok, Err, Option, Result, ◌==◌, nat_le, slice_index}
-use Rattle.message.specs.Refusals.{Answer}
+use Rattle.message.specs.declared.refusals.Refusal.{Refusal}
 use Rattle.message.specs.declared.refusals.Refusal.TheVariants.{MissingWords, UnknownOpcode, WrongLength, WrongSource, UnknownRecord}
 use Rattle.message.specs.declared.kinds.Kind.{Kind}
 use Rattle.message.specs.Checks.{given}
@@ -13,8 +13,8 @@ use Rattle.packet.specs.Layout.{opcode_in, length_in, source_in, value_in, packe
 use Rattle.packet.specs.Writing.{sendable}
 
 -- A fault at a place.
-abbrev pub fault : Answer → ℕ → Result Packet Fault
-fault c at = Err (record { code = c; place = at })
+abbrev pub fault : Refusal → ℕ → Result Packet Fault
+fault r at = Err (record { refusal = r; place = at })
 
 -- The packet of a kind that the words at the front say.
 abbrev pub said : Kind → List ℕ → Packet
@@ -26,18 +26,18 @@ said k front = record {
 -- The judgement once the opcode is known: it is that of a kind, the length is the kind's, all words are there, the source goes
 -- with the kind, and the record is at most 63. The packet begins at a place, and the words end at another.
 abbrev pub front_as : Option Kind → ℕ → ℕ → List ℕ → Result Packet Fault
-front_as None at end front = fault (Err UnknownOpcode) at
+front_as None at end front = fault UnknownOpcode at
 front_as (Some k) at end front =
-    given (length_in (slice_index front 0) == words_of k) (fault (Err WrongLength) at)
-    (given (nat_le (words_of k) (length front)) (fault (Err MissingWords) end)
-    (given (source_fits k (source_in (slice_index front 0))) (fault (Err WrongSource) at)
-    (given (nat_le (slice_index front 1) 63) (fault (Err UnknownRecord) (at + 1))
+    given (length_in (slice_index front 0) == words_of k) (fault WrongLength at)
+    (given (nat_le (words_of k) (length front)) (fault MissingWords end)
+    (given (source_fits k (source_in (slice_index front 0))) (fault WrongSource at)
+    (given (nat_le (slice_index front 1) 63) (fault UnknownRecord (at + 1))
     (Ok (said k front)))))
 
 -- The packet at the front of words that begin at a place and end at another, or the first fault.
 abbrev pub front_packet : ℕ → ℕ → List ℕ → Result Packet Fault
 front_packet at end front =
-    given (nat_le 1 (length front)) (fault (Err MissingWords) end) (front_as (kind_of (opcode_in (slice_index front 0))) at end front)
+    given (nat_le 1 (length front)) (fault MissingWords end) (front_as (kind_of (opcode_in (slice_index front 0))) at end front)
 
 -- The packet at a place among words, or the first fault.
 abbrev pub packet_at : List ℕ → ℕ → Result Packet Fault

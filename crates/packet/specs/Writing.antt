@@ -1,6 +1,6 @@
 -- What the writer answers, and what its buffer then holds.
-use Rattle.std.specs.Prelude.{ℕ, Bool, false, cond, ◌&&◌, List, ◌++◌, length, drop, Some, None, Option, nat_le, Ok, Err, is_ok}
-use Rattle.message.specs.Refusals.{Answer}
+use Rattle.std.specs.Prelude.{ℕ, Bool, false, cond, ◌&&◌, List, ◌++◌, length, drop, Some, None, Option, nat_le, Err, is_ok}
+use Rattle.message.specs.Refusals.{Answer, accepted}
 use Rattle.message.specs.declared.refusals.Refusal.TheVariants.{Full, Malformed, WrongSource}
 use Rattle.message.specs.declared.kinds.Kind.{Kind}
 use Rattle.message.specs.Checks.{given}
@@ -24,7 +24,7 @@ code_as (Some k) p room =
     given (formed_as (Some k) p.message) (Err Malformed)
     (given (source_fits k p.source) (Err WrongSource)
     (given (nat_le (words_of k) room) (Err Full)
-    (Ok tt)))
+    accepted))
 
 abbrev pub write_answer : Packet → ℕ → Answer
 write_answer p room = code_as (kind_of p.message.opcode) p room

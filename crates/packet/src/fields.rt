@@ -8,7 +8,7 @@ use message::Kind;
 pub(crate) fn header_of(kind: Kind, source: u16) -> u32
     ensures { result ≡ header kind source }
 {
-    (source as u32) << 16 | (kind.words() as u32) << 8 | kind.opcode() as u32
+    (source as u32) << 16 | (kind.words() as u32) << 8 | u8::from(kind) as u32
 }
 
 pub(crate) fn opcode_in(head: u32) -> u8

@@ -22,7 +22,7 @@ pub struct Packet {
 /// What is wrong with words, and the index of the word where it shows.
 #[derive(Clone, Copy, PartialEq, Eq, Debug)]
 pub struct Fault {
-    pub code: Refusal,
+    pub refusal: Refusal,
     pub place: usize,
 }
 

@@ -19,7 +19,7 @@ fn read_front(front: &[u32], at: usize, end: usize) -> Result<Found<'_>, Fault>
     let [head, ..] = front else {
         return Err(missing);
     };
-    let Some(kind) = Kind::of(opcode_in(*head)) else {
+    let Ok(kind) = Kind::try_from(opcode_in(*head)) else {
         return Err(Fault {
             refusal: Refusal::UnknownOpcode,
             place: at,

@@ -1,8 +1,9 @@
 -- A put and a drop that are accepted, over the words of the lanes.
-use Rattle.std.proofs.Common.{◌≡◌, ℕ, ◌+◌, ◌-◌, ◌*◌, ◌<◌, ◌≤◌, true, ltb, List, [], ◌∷◌, ◌++◌, length, get_or, drop, set, None, Option, sym, ap, ◌∙◌, subst, arith, Ok}
+use Rattle.std.proofs.Common.{◌≡◌, ℕ, ◌+◌, ◌-◌, ◌*◌, ◌<◌, ◌≤◌, true, ltb, List, [], ◌∷◌, ◌++◌, length, get_or, drop, set, None, Option, sym, ap, ◌∙◌, subst, arith}
 use Rattle.std.proofs.lemmas.List.{length_push}
 use Rattle.std.proofs.lemmas.Bool.{cond-true, lt-ltb}
 use Rattle.std.specs.List.{slice_get}
+use Rattle.message.specs.Refusals.{accepted}
 use Rattle.lanes.specs.Calls.{changed}
 use Rattle.message.specs.declared.Message.{Message}
 use Rattle.message.specs.Lists.{with_list}
@@ -35,7 +36,7 @@ head_step f counts lanes depth l found holds there is =
 -- What a put leaves, where g is the words of the lanes then.
 pub record Put (f g : ℕ → List ℕ) (counts : List ℕ) (lanes depth l : ℕ) (m : Message) : Type 0 where
   pub holds : Holds g (set counts l (get_or counts l 0 + 1)) lanes depth
-  pub did : Did (Ok tt) (put_answer (traffic_in f lanes depth) l m) (said_in g) (put_waiting (traffic_in f lanes depth) l m)
+  pub did : Did accepted (put_answer (traffic_in f lanes depth) l m) (said_in g) (put_waiting (traffic_in f lanes depth) l m)
 
 pub put_step : (f g : ℕ → List ℕ) (counts : List ℕ) (lanes depth l : ℕ) (m : Message) (words : List ℕ) → Holds f counts lanes depth → lanes ≤ 64 → l < lanes → l < length counts
     → well_formed m ≡ true → get_or counts l 0 < depth → words ≡ packet_words (packet_in l m) → g ≡ changed lanes f l (put_list (4 * depth) (f l) words)
@@ -70,7 +71,7 @@ length_later (m ∷ ms) n is some = omega arith
 -- What a drop leaves.
 pub record Drop (f g : ℕ → List ℕ) (counts : List ℕ) (lanes depth l : ℕ) : Type 0 where
   pub holds : Holds g (set counts l (get_or counts l 0 - 1)) lanes depth
-  pub did : Did (Ok tt) (drop_answer (traffic_in f lanes depth) l) (said_in g) (drop_waiting (traffic_in f lanes depth) l)
+  pub did : Did accepted (drop_answer (traffic_in f lanes depth) l) (said_in g) (drop_waiting (traffic_in f lanes depth) l)
 
 pub drop_step : (f g : ℕ → List ℕ) (counts : List ℕ) (lanes depth l size : ℕ) → Holds f counts lanes depth → l < lanes → l < length counts
     → 1 ≤ get_or counts l 0 → size ≡ size_of (read_front (f l)) → g ≡ changed lanes f l (discard_list size (f l)) → Drop f g counts lanes depth l

@@ -1,9 +1,9 @@
 -- Packets that are written one after another.
-use Rattle.std.proofs.Common.{◌≡◌, ℕ, ◌+◌, ◌-◌, ◌<◌, ◌≤◌, true, false, cond, List, [], ◌∷◌, ◌++◌, length, get_or, take, drop, sym, refl, ap, ◌∙◌, subst, arith, length-drop, Ok, is_ok}
+use Rattle.std.proofs.Common.{◌≡◌, ℕ, ◌+◌, ◌-◌, ◌<◌, ◌≤◌, true, false, cond, List, [], ◌∷◌, ◌++◌, length, get_or, take, drop, sym, refl, ap, ◌∙◌, subst, arith, length-drop, is_ok}
 use Rattle.std.proofs.lemmas.List.{append_assoc, append-nil, drop_all, drop_more, take-append-drop}
 use Rattle.std.proofs.lemmas.Bool.{both_ways}
 use Rattle.message.proofs.Accepts.{accepted_only}
-use Rattle.message.specs.Refusals.{Answer}
+use Rattle.message.specs.Refusals.{Answer, accepted}
 use Rattle.packet.specs.declared.Packet.{Packet}
 use Rattle.packet.specs.Layout.{packet_words}
 use Rattle.packet.specs.Streams.{all_sendable, ended, stream, walk}
@@ -28,7 +28,7 @@ pub record Sent (ps : List Packet) (old out : List ℕ) (c : Answer) (n : ℕ) :
   pub code : c ≡ stream_answer ps (length old)
   pub count : n ≡ length (stream (taken ps (length old)))
   pub words : out ≡ written_all ps old
-  pub all : c ≡ Ok tt → taken ps (length old) ≡ ps
+  pub all : c ≡ accepted → taken ps (length old) ≡ ps
   pub back : walk (take n out) ≡ ended (taken ps (length old))
 
 pub sending : (ps : List Packet) (old : List ℕ) → Sending ps old old 0 0
@@ -46,7 +46,7 @@ taken_sendable (p ∷ ps) room =
     ] refl
 
 -- Where no packet is refused, all are taken.
-all_taken : (ps : List Packet) (room : ℕ) → stream_answer ps room ≡ Ok tt → taken ps room ≡ ps
+all_taken : (ps : List Packet) (room : ℕ) → stream_answer ps room ≡ accepted → taken ps room ≡ ps
 all_taken [] room whole = refl
 all_taken (p ∷ ps) room whole =
     elim (is_ok (write_answer p room)) as (λ b. is_ok (write_answer p room) ≡ b → taken (p ∷ ps) room ≡ p ∷ ps) [
@@ -122,7 +122,7 @@ sending_stopped ps old out after i at c before here words code refused =
     rw (words, code) (stopped ps old out i at (get_or ps i zeros) before (drop_more ps i zeros here) (sym (refused ∙ ap is_ok code)))
 
 -- So does the end of the packets.
-pub sending_done : (ps : List Packet) (old out : List ℕ) (i at : ℕ) → Sending ps old out i at → length ps ≤ i → Sent ps old out (Ok tt) at
+pub sending_done : (ps : List Packet) (old out : List ℕ) (i at : ℕ) → Sending ps old out i at → length ps ≤ i → Sent ps old out accepted at
 sending_done ps old out i at before end =
     let none = drop_all i ps end in
-    sent ps old out (Ok tt) at before.filled (sym (append-nil (take at out)) ∙ rw none at before.words) (rw none at before.code)
+    sent ps old out accepted at before.filled (sym (append-nil (take at out)) ∙ rw none at before.words) (rw none at before.code)

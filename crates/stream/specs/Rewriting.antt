@@ -9,7 +9,7 @@ use Rattle.packet.specs.Writing.{laid_over}
 -- The answer of writing words again: the buffer is at least as long, the walk comes to the end, and this many packets were found.
 abbrev pub rewrite_answer : List ℕ → ℕ → Result ℕ Fault
 rewrite_answer words room =
-    given (nat_le (length words) room) (Err (record { code = (Err Full); place = room }))
+    given (nat_le (length words) room) (Err (record { refusal = Full; place = room }))
     (elim (walk words).fault [ None ↦ Ok (length (walk words).packets) | Some f ↦ Err f ])
 
 -- The buffer then: it begins with the packets that the walk found, unless it was too short.

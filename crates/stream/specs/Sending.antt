@@ -1,6 +1,6 @@
 -- Packets written one after another to a buffer.
-use Rattle.std.specs.Prelude.{ℕ, ◌-◌, cond, List, [], ◌∷◌, length, Ok, is_ok}
-use Rattle.message.specs.Refusals.{Answer}
+use Rattle.std.specs.Prelude.{ℕ, ◌-◌, cond, List, [], ◌∷◌, length, is_ok}
+use Rattle.message.specs.Refusals.{Answer, accepted}
 use Rattle.packet.specs.declared.Packet.{Packet}
 use Rattle.packet.specs.Layout.{packet_words}
 use Rattle.packet.specs.Streams.{stream}
@@ -17,6 +17,6 @@ written_all ps buffer = laid_over (stream (taken ps (length buffer))) buffer
 
 -- The answer to the first packet that it refuses, if there is one.
 abbrev pub stream_answer : List Packet → ℕ → Answer
-stream_answer [] room = (Ok tt)
+stream_answer [] room = accepted
 stream_answer (p ∷ ps) room =
     cond (is_ok (write_answer p room)) (stream_answer ps (room - length (packet_words p))) (write_answer p room)
