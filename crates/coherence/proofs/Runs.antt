@@ -2,8 +2,9 @@
 use Rattle.std.proofs.Common.{◌≡◌, ℕ, ◌*◌, Bool, true, false, cond, ◌&&◌, ltb, leb, length, Some, None, Option, sym, refl, ap, ◌∙◌, subst, length-set}
 use mathlib.Core.Path.{fun_ext}
 use Rattle.message.specs.declared.Message.{Message}
-use Rattle.protocol.specs.declared.CallCode.{CallCode}
-use Rattle.protocol.specs.declared.CallCode.TheVariants.{OutOfTurn, NoSuchTerminal, Unfit}
+use Rattle.protocol.specs.declared.Code.{Code}
+use Rattle.message.specs.declared.refusals.Refusal.TheVariants.{OutOfTurn, NoSuchTerminal, Unfit}
+use Rattle.protocol.specs.declared.Code.TheVariants.{Refused}
 use Rattle.protocol.specs.Codes.{number, accepted}
 use Rattle.message.specs.Kinds.{kind_of}
 use Rattle.network.specs.Traffic.{oldest}
@@ -71,7 +72,7 @@ heard_keeps s t None = still s
 heard_keeps s t (Some m) =
     either s (ltb m.«record» s.home.records) _ _
     (stepped_keeps s t m.«record» (heard_as (kind_of m.opcode) (seat_at s t m.«record») t m.«record» m.value))
-    (stepped_keeps s t m.«record» (refuses OutOfTurn))
+    (stepped_keeps s t m.«record» (refuses (Refused OutOfTurn)))
 
 settled_keeps : (s : Site) (t r : ℕ) (o : Ruling) → Keeps s (with_home s (settled s.home t r o))
 settled_keeps s t r (ruling.refuses c) = pick (takes_off c)
@@ -89,14 +90,14 @@ taken_keeps s t (Some m) = pick (ltb m.«record» s.home.records)
     r : ℕ
     r = m.«record»
 
-    pick : (b : Bool) → Keeps s (with_home s (cond b (settled s.home t m.«record» (answered (kind_of m.opcode) (scene_at s.home m.«record») m.«record» t m.value)) (settled s.home t m.«record» (ruling.refuses OutOfTurn))))
+    pick : (b : Bool) → Keeps s (with_home s (cond b (settled s.home t m.«record» (answered (kind_of m.opcode) (scene_at s.home m.«record») m.«record» t m.value)) (settled s.home t m.«record» (ruling.refuses (Refused OutOfTurn)))))
     pick true = settled_keeps s t r (answered (kind_of m.opcode) (scene_at s.home r) r t m.value)
-    pick false = settled_keeps s t r (ruling.refuses OutOfTurn)
+    pick false = settled_keeps s t r (ruling.refuses (Refused OutOfTurn))
 
 home_keeps : (s : Site) (t : ℕ) → Keeps s (site_home_step s t)
 home_keeps s t = either s (row_fits s) _ _ (pick (parts_serve s.home) (ltb t s.home.terminals)) (still s)
   where
-    pick : (b c : Bool) → Keeps s (with_home s (cond b (cond c (head_taken s.home t (oldest s.home.up t)) (unchanged NoSuchTerminal s.home)) (unchanged Unfit s.home)))
+    pick : (b c : Bool) → Keeps s (with_home s (cond b (cond c (head_taken s.home t (oldest s.home.up t)) (unchanged (Refused NoSuchTerminal) s.home)) (unchanged (Refused Unfit) s.home)))
     pick true true = taken_keeps s t (oldest s.home.up t)
     pick true false = still s
     pick false c = still s
@@ -131,7 +132,7 @@ step_simulates s last I J (HomeStep t) = home_step_simulates s last I J t
 step_simulates s last I J (TerminalStep t) = terminal_step_simulates s last I J t
 
 -- What a call writes is what the machine notes.
-effect_is : (c : Call) (code : CallCode) (v : ℕ) (last : ℕ → ℕ) → with_effect last (effect c (code, v)) ≡ model_calls.effect (call_of c) (number code) last
+effect_is : (c : Call) (code : Code) (v : ℕ) (last : ℕ → ℕ) → with_effect last (effect c (code, v)) ≡ model_calls.effect (call_of c) (number code) last
 effect_is (Read t r) code v last = refl
 effect_is (Write t r w) code v last = pick (accepted code)
   where

@@ -1,8 +1,9 @@
 -- The law of coherence: what the machine's invariant says of the machine's view, told of the site.
 use Rattle.std.proofs.Common.{◌≡◌, ℕ, ◌+◌, ◌*◌, ◌≤◌, List, [], ◌∷◌, sym, refl, ap, ◌∙◌, subst, le_trans, arith, eqb-true}
 use Rattle.message.specs.declared.Message.{Message}
-use Rattle.protocol.specs.declared.CallCode.{CallCode}
-use Rattle.protocol.specs.declared.CallCode.TheVariants.{Accepted, Full}
+use Rattle.protocol.specs.declared.Code.{Code}
+use Rattle.message.specs.declared.refusals.Refusal.TheVariants.{Full}
+use Rattle.protocol.specs.declared.Code.TheVariants.{Accepted, Refused}
 use Rattle.protocol.proofs.Accepts.{accepted_only}
 use Rattle.protocol.specs.Codes.{number}
 use Rattle.protocol.specs.declared.Call.{Call}
@@ -66,7 +67,7 @@ module _ (s : Site) (last : ℕ → ℕ) (K : Stands s last) where
   gave_last (TerminalStep t) = tt
 
   -- with deep lanes no call is refused for want of room
-  finds_room : told.Deep (sizes s) → (c : Call) → (step s c).code ≡ Full → ⊥
+  finds_room : told.Deep (sizes s) → (c : Call) → (step s c).code ≡ (Refused Full) → ⊥
   finds_room deep c e =
       let M = step_simulates s last K.sized K.kept c in
       step_never_full (sizes s) S last K.kept deep (call_of c) (sym M.code_is ∙ ap number e)
@@ -78,7 +79,7 @@ module _ (s : Site) (last : ℕ → ℕ) (K : Stands s last) where
       (subst (λ (x : ℕ). told.accepted (sizes s) S (steps_of xs) ≤ 2 * s.home.terminals * law.waiting_terminals s + x) (replacements_alike s)
       (subst (λ (x : ℕ). told.accepted (sizes s) S (steps_of xs) ≤ 2 * s.home.terminals * x + told.replacements (sizes s) S) (waiters_alike s) most))
 
-  accepted_number : (c : CallCode) → number c ≡ 0 → c ≡ Accepted
+  accepted_number : (c : Code) → number c ≡ 0 → c ≡ Accepted
   accepted_number c e = accepted_only c (rw e refl)
 
   stuck : law.NoStepLeft s → told.Stuck (sizes s) S

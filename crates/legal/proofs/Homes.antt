@@ -3,7 +3,8 @@
 use Rattle.std.proofs.Common.{ℕ, ◌<◌, ◌≤◌, ltb, Some, None, Option, arith}
 use Rattle.std.proofs.lemmas.Bool.{cond_both, ltb-true}
 use Rattle.message.specs.declared.Message.{Message}
-use Rattle.protocol.specs.declared.CallCode.TheVariants.{OutOfTurn}
+use Rattle.message.specs.declared.refusals.Refusal.TheVariants.{OutOfTurn}
+use Rattle.protocol.specs.declared.Code.TheVariants.{Refused}
 use Rattle.message.specs.Kinds.{kind_of}
 use Rattle.network.specs.Traffic.{oldest}
 use Rattle.protocol.specs.Scenes.{Ruling, refuses, accepts}
@@ -34,7 +35,7 @@ taken_legal home t (Some m) served before =
     cond_both (ltb m.«record» home.records) _ _ LeavesLegalHome
     (λ _. settled_legal home t m.«record» _ before
     (answered_legal (kind_of m.opcode) (scene_at home m.«record») m.«record» t m.value served (before.entries m.«record»)))
-    (λ _. settled_legal home t m.«record» (refuses OutOfTurn) before (record { legal = before.entries m.«record» }))
+    (λ _. settled_legal home t m.«record» (refuses (Refused OutOfTurn)) before (record { legal = before.entries m.«record» }))
 
 -- a step, behind its checks
 checked_legal : (home : Home) (t : ℕ) → LegalHome home → LeavesLegalHome (home_step home t)

@@ -1,2 +1,3 @@
 pub mod Opcodes
 pub mod Lists
+pub mod Refused

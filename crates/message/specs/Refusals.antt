@@ -1,11 +1,14 @@
 -- The number of each refusal, and of each answer. Every promise about an answer's number cites this table.
 use Rattle.std.specs.Prelude.{ℕ, Result, Ok, Err}
 use Rattle.message.specs.declared.refusals.Refusal.{Refusal}
-use Rattle.message.specs.declared.refusals.Refusal.TheVariants.{Full, Empty, NoSuchTerminal, NoSuchRecord, Unfit, Malformed, AtLimit, MissingWords, UnknownOpcode, WrongLength, WrongSource, UnknownRecord}
+use Rattle.message.specs.declared.refusals.Refusal.TheVariants.{Waiting, Full, Empty, NoCopy, OutOfTurn, NoSuchTerminal, NoSuchRecord, Unfit, Malformed, AtLimit, MissingWords, UnknownOpcode, WrongLength, WrongSource, UnknownRecord}
 
 abbrev pub number : Refusal → ℕ
+number Waiting = 2
 number Full = 3
 number Empty = 4
+number NoCopy = 5
+number OutOfTurn = 6
 number NoSuchTerminal = 7
 number NoSuchRecord = 8
 number Unfit = 9

@@ -5,10 +5,16 @@ ghost use Rattle.message.specs.Refusals.{code_of, number};
 /// Why a call is refused. What can be refused answers a `Result` with this error.
 #[derive(Clone, Copy, PartialEq, Eq, Debug)]
 pub enum Refusal {
+    /// The terminal has no copy that would do, and waits already.
+    Waiting,
     /// A lane or a buffer is full.
     Full,
     /// A lane is empty.
     Empty,
+    /// There is no copy to release.
+    NoCopy,
+    /// The message is out of turn.
+    OutOfTurn,
     /// There is no such terminal, or no such lane: lane t is that of terminal t.
     NoSuchTerminal,
     /// There is no such record.
@@ -37,8 +43,11 @@ impl From<Refusal> for u8 {
     /// The number that stands for a refusal wherever answers are numbers.
     fn from(refusal: Refusal) -> u8 {
         match refusal {
+            Refusal::Waiting => 2,
             Refusal::Full => 3,
             Refusal::Empty => 4,
+            Refusal::NoCopy => 5,
+            Refusal::OutOfTurn => 6,
             Refusal::NoSuchTerminal => 7,
             Refusal::NoSuchRecord => 8,
             Refusal::Unfit => 9,

@@ -1,7 +1,8 @@
 -- The five calls: the checks in their order, then the rules.
 use Rattle.std.specs.Prelude.{ℕ, cond, Some, None, Option, nat_lt, slice_set}
 use Rattle.message.specs.declared.Message.{Message}
-use Rattle.protocol.specs.declared.CallCode.TheVariants.{Empty, OutOfTurn, NoSuchTerminal, NoSuchRecord, Unfit}
+use Rattle.message.specs.declared.refusals.Refusal.TheVariants.{Empty, OutOfTurn, NoSuchTerminal, NoSuchRecord, Unfit}
+use Rattle.protocol.specs.declared.Code.TheVariants.{Refused}
 use Rattle.message.specs.Checks.{given}
 use Rattle.message.specs.Kinds.{kind_of}
 use Rattle.network.specs.Traffic.{Traffic, oldest, after_drop, with_waiting}
@@ -17,13 +18,13 @@ use Rattle.protocol.specs.Sites.{Site, spot, place_for, seat_at, row_fits, fits,
 -- First that the row and the parts are large enough, then that the terminal is there.
 abbrev pub at_terminal : Site → ℕ → Given Site → Given Site
 at_terminal site t follows =
-    given (fits site) (unchanged Unfit site)
-    (given (nat_lt t site.home.terminals) (unchanged NoSuchTerminal site)
+    given (fits site) (unchanged (Refused Unfit) site)
+    (given (nat_lt t site.home.terminals) (unchanged (Refused NoSuchTerminal) site)
     follows)
 
 -- Then that the record is there.
 abbrev pub of_record : Site → ℕ → Given Site → Given Site
-of_record site r follows = given (nat_lt r site.home.records) (unchanged NoSuchRecord site) follows
+of_record site r follows = given (nat_lt r site.home.records) (unchanged (Refused NoSuchRecord) site) follows
 
 -- One place, one wait and the networks are changed.
 abbrev pub changed : Site → ℕ → ℕ → Place → Wait → Traffic → Traffic → Site
@@ -72,9 +73,9 @@ stepped site t r (moves code value place wait waiting) =
 
 -- A message about a record that the site has not is out of turn.
 abbrev pub message_heard : Site → ℕ → Option Message → Given Site
-message_heard site t None = unchanged Empty site
+message_heard site t None = unchanged (Refused Empty) site
 message_heard site t (Some m) =
-    given (nat_lt m.«record» site.home.records) (stepped site t m.«record» (refuses OutOfTurn))
+    given (nat_lt m.«record» site.home.records) (stepped site t m.«record» (refuses (Refused OutOfTurn)))
     (stepped site t m.«record»
     (heard_as (kind_of m.opcode) (seat_at site t m.«record») t m.«record» m.value))
 
@@ -90,7 +91,7 @@ with_home site given-home =
 
 -- The home takes the oldest message of a terminal's up lane.
 abbrev pub site_home_step : Site → ℕ → Given Site
-site_home_step site t = given (row_fits site) (unchanged Unfit site) (with_home site (home_step site.home t))
+site_home_step site t = given (row_fits site) (unchanged (Refused Unfit) site) (with_home site (home_step site.home t))
 
 -- What a call does.
 abbrev pub step : Site → Call → Given Site

@@ -1,20 +1,14 @@
 -- The number of each code that a call of a site answers.
 use Rattle.std.specs.Prelude.{ℕ, Bool, ◌==◌}
-use Rattle.protocol.specs.declared.CallCode.{CallCode}
-use Rattle.protocol.specs.declared.CallCode.TheVariants.{Accepted, Requested, Waiting, Full, Empty, NoCopy, OutOfTurn, NoSuchTerminal, NoSuchRecord, Unfit}
+use Rattle.message.specs.Refusals as refusals
+use Rattle.protocol.specs.declared.Code.{Code}
+use Rattle.protocol.specs.declared.Code.TheVariants.{Accepted, Requested, Refused}
 
-abbrev pub number : CallCode → ℕ
+abbrev pub number : Code → ℕ
 number Accepted = 0
 number Requested = 1
-number Waiting = 2
-number Full = 3
-number Empty = 4
-number NoCopy = 5
-number OutOfTurn = 6
-number NoSuchTerminal = 7
-number NoSuchRecord = 8
-number Unfit = 9
+number (Refused refusal) = refusals.number refusal
 
 -- Whether a code says that the call was accepted.
-abbrev pub accepted : CallCode → Bool
+abbrev pub accepted : Code → Bool
 accepted c = number c == 0

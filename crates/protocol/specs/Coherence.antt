@@ -1,7 +1,8 @@
 -- The law of coherence over every list of calls.
 use Rattle.std.specs.Prelude.{◌≡◌, ℕ, zero, suc, ◌+◌, ◌*◌, ◌<◌, ◌≤◌, true, false, cond, List, [], ◌∷◌, length, ◌==◌, ◌≢◌}
 use Rattle.message.specs.declared.Message.{Message}
-use Rattle.protocol.specs.declared.CallCode.TheVariants.{Accepted, Full}
+use Rattle.message.specs.declared.refusals.Refusal.TheVariants.{Full}
+use Rattle.protocol.specs.declared.Code.TheVariants.{Accepted, Refused}
 use Rattle.message.specs.declared.kinds.Kind.TheVariants.{Replacement}
 use Rattle.protocol.specs.Codes.{accepted}
 use Rattle.message.specs.Kinds.{opcode_of}
@@ -49,7 +50,7 @@ Deep site = (2 * site.home.records + 1 ≤ site.home.up.depth) × (site.home.rec
 -- Never full: no answer says that a lane was full.
 abbrev pub NeverFull : List Answer → Type 0
 NeverFull [] = Unit {0}
-NeverFull (answer ∷ given) = (answer.0 ≢ Full) × NeverFull given
+NeverFull (answer ∷ given) = (answer.0 ≢ (Refused Full)) × NeverFull given
 
 -- A step is a home step or a terminal step.
 pub data Step : Type 0 where

@@ -1,8 +1,9 @@
 -- A home step: the oldest message of an up lane is taken, and the home rules on it.
 use Rattle.std.specs.Prelude.{ℕ, Bool, cond, ◌&&◌, List, Some, None, Option, ◌==◌, nat_le, nat_lt, slice_index_or, slice_set}
 use Rattle.message.specs.declared.Message.{Message}
-use Rattle.protocol.specs.declared.CallCode.{CallCode}
-use Rattle.protocol.specs.declared.CallCode.TheVariants.{Accepted, Empty, OutOfTurn, NoSuchTerminal, Unfit}
+use Rattle.protocol.specs.declared.Code.{Code}
+use Rattle.message.specs.declared.refusals.Refusal.TheVariants.{Empty, OutOfTurn, NoSuchTerminal, Unfit}
+use Rattle.protocol.specs.declared.Code.TheVariants.{Accepted, Refused}
 use Rattle.message.specs.declared.kinds.Kind.{Kind}
 use Rattle.message.specs.Checks.{given}
 use Rattle.protocol.specs.Codes.{number}
@@ -26,20 +27,20 @@ pub record Home : Type 0 where
 
 -- What a call gives: a code and a value, and what then holds.
 pub record Given (S : Type 0) : Type 0 where
-  pub code : CallCode
+  pub code : Code
   pub value : ℕ
   pub after : S
 
-abbrev pub gives : {S : Type 0} → CallCode → ℕ → S → Given S
+abbrev pub gives : {S : Type 0} → Code → ℕ → S → Given S
 gives code value after = record { code = code; value = value; after = after }
 
 -- A refusal changes nothing.
-abbrev pub unchanged : {S : Type 0} → CallCode → S → Given S
+abbrev pub unchanged : {S : Type 0} → Code → S → Given S
 unchanged code before = gives code 0 before
 
 -- A refusal of a step: only a message out of turn is taken off its lane.
-abbrev pub takes_off : CallCode → Bool
-takes_off code = number code == number OutOfTurn
+abbrev pub takes_off : Code → Bool
+takes_off code = number code == number (Refused OutOfTurn)
 
 -- The entry of a record that was never opened.
 abbrev pub blank : Entry
@@ -68,7 +69,7 @@ up_taken home t =
 -- What the home does with a message, by its kind; shut, so that what stands above need not look inside. An opcode of no kind is
 -- out of turn.
 unfoldable pub answered : Option Kind → Scene → ℕ → ℕ → ℕ → Ruling
-answered None s r t v = refuses OutOfTurn
+answered None s r t v = refuses (Refused OutOfTurn)
 answered (Some kind) s r t v = ruled kind s r t v
 
 -- The home carries out a ruling on a message about record r from up lane t: one entry changes, and no other.
@@ -88,12 +89,12 @@ settled home t r (accepts entry holders waiting) =
 -- A message about a record that the site has not is out of turn.
 abbrev pub message_taken : Home → ℕ → Message → Given Home
 message_taken home t m =
-    given (nat_lt m.«record» home.records) (settled home t m.«record» (refuses OutOfTurn))
+    given (nat_lt m.«record» home.records) (settled home t m.«record» (refuses (Refused OutOfTurn)))
     (settled home t m.«record»
     (answered (kind_of m.opcode) (scene_at home m.«record») m.«record» t m.value))
 
 abbrev pub head_taken : Home → ℕ → Option Message → Given Home
-head_taken home t None = unchanged Empty home
+head_taken home t None = unchanged (Refused Empty) home
 head_taken home t (Some m) = message_taken home t m
 
 -- Do the parts serve as many records and terminals as the site has?
@@ -105,6 +106,6 @@ parts_serve home =
 -- A home step on up lane t.
 abbrev pub home_step : Home → ℕ → Given Home
 home_step home t =
-    given (parts_serve home) (unchanged Unfit home)
-    (given (nat_lt t home.terminals) (unchanged NoSuchTerminal home)
+    given (parts_serve home) (unchanged (Refused Unfit) home)
+    (given (nat_lt t home.terminals) (unchanged (Refused NoSuchTerminal) home)
     (head_taken home t (oldest home.up t)))

@@ -1,6 +1,6 @@
 -- Lists of calls: what they leave, what they answer, and which values they write.
 use Rattle.std.specs.Prelude.{ℕ, cond, List, [], ◌∷◌, Some, None, Option, ◌==◌}
-use Rattle.protocol.specs.declared.CallCode.{CallCode}
+use Rattle.protocol.specs.declared.Code.{Code}
 use Rattle.protocol.specs.Codes.{accepted}
 use Rattle.protocol.specs.declared.Call.{Call}
 use Rattle.protocol.specs.declared.Call.TheVariants.{Read, Write, Release, HomeStep, TerminalStep}
@@ -9,7 +9,7 @@ use Rattle.protocol.specs.Calls.{step}
 
 -- A call answers a code and a value.
 abbrev pub Answer : Type 0
-Answer = CallCode × ℕ
+Answer = Code × ℕ
 
 -- The site after a list of calls.
 unfoldable pub run : Site → List Call → Site

@@ -1,8 +1,8 @@
 -- What a rule of the home looks at, and what it rules.
 use Rattle.std.specs.Prelude.{ℕ, List}
 use Rattle.message.specs.declared.Message.{Message}
-use Rattle.protocol.specs.declared.CallCode.{CallCode}
-use Rattle.protocol.specs.declared.CallCode.TheVariants.{Accepted}
+use Rattle.protocol.specs.declared.Code.{Code}
+use Rattle.protocol.specs.declared.Code.TheVariants.{Accepted}
 use Rattle.directory.specs.Directories.{Holders, View}
 use Rattle.directory.specs.Changes.{with_holders}
 use Rattle.network.specs.Traffic.{Traffic, with_waiting}
@@ -17,11 +17,11 @@ pub record Scene : Type 0 where
 
 -- A rule refuses, and changes nothing; or it accepts, and says what the entry, the holders and the down lanes then are.
 pub data Ruling : Type 0 where
-  refuses : CallCode → Ruling
+  refuses : Code → Ruling
   accepts : Entry → Holders → (ℕ → List Message) → Ruling
 
 -- The code that a ruling answers.
-abbrev pub code_of : Ruling → CallCode
+abbrev pub code_of : Ruling → Code
 code_of (refuses c) = c
 code_of (accepts entry holders waiting) = Accepted
 

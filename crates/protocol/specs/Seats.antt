@@ -1,7 +1,7 @@
 -- What a rule of a terminal looks at, and what it makes of it.
 use Rattle.std.specs.Prelude.{ℕ, List}
 use Rattle.message.specs.declared.Message.{Message}
-use Rattle.protocol.specs.declared.CallCode.{CallCode}
+use Rattle.protocol.specs.declared.Code.{Code}
 use Rattle.network.specs.Traffic.{Traffic, with_waiting}
 use Rattle.protocol.specs.declared.Place.{Place}
 use Rattle.protocol.specs.declared.Wait.{Wait}
@@ -15,11 +15,11 @@ pub record Seat : Type 0 where
 -- A rule refuses, and changes nothing; or it answers a code and a value, and says what the place, the wait and the up lanes
 -- then are.
 pub data Turn : Type 0 where
-  refuses : CallCode → Turn
-  moves : CallCode → ℕ → Place → Wait → (ℕ → List Message) → Turn
+  refuses : Code → Turn
+  moves : Code → ℕ → Place → Wait → (ℕ → List Message) → Turn
 
 -- The code that a turn answers.
-abbrev pub turn_code : Turn → CallCode
+abbrev pub turn_code : Turn → Code
 turn_code (refuses code) = code
 turn_code (moves code value place wait waiting) = code
 

@@ -3,6 +3,8 @@
 
 #![tactic(auto)]
 
+use message::Refusal;
+
 /// What the home knows of a record.
 #[derive(Clone, Copy, PartialEq, Eq, Debug)]
 pub enum HomeState {
@@ -88,28 +90,13 @@ pub enum Call {
     },
 }
 
-/// What a call of a site answers beside its value. The four cases that the answers of `message` have not are those of the site's
-/// own rules.
+/// What a call of a site answers beside its value.
 #[derive(Clone, Copy, PartialEq, Eq, Debug)]
-pub enum CallCode {
+pub enum Code {
     /// Accepted.
     Accepted,
     /// A request was sent; the terminal waits for what it asked for.
     Requested,
-    /// The terminal has no copy that would do, and waits already.
-    Waiting,
-    /// A lane is full.
-    Full,
-    /// A lane is empty.
-    Empty,
-    /// There is no copy to release.
-    NoCopy,
-    /// The message is out of turn.
-    OutOfTurn,
-    /// There is no such terminal.
-    NoSuchTerminal,
-    /// There is no such record.
-    NoSuchRecord,
-    /// Sizes or parts do not fit.
-    Unfit,
+    /// Refused, and why.
+    Refused(Refusal),
 }
