@@ -4,7 +4,7 @@ use Rattle.std.proofs.lemmas.List.{append_assoc, append-nil}
 use Rattle.std.proofs.lemmas.Bool.{lt-ltb}
 use Rattle.std.proofs.lemmas.Bool.Decides.{nat_tests}
 use Rattle.std.specs.List.{AllByRecursion}
-use Rattle.hex_text.specs.declared.Passed.{Passed}
+use Rattle.hex_text.specs.Reading.{Passed}
 use Rattle.hex_text.specs.Bytes.{white, hex_digit}
 use Rattle.hex_text.specs.Reading.{no_word, complete, read_on, reading}
 use Rattle.hex_text.specs.Writing.{digit_byte, low_digits, text_of, TextReadsBack}

@@ -1,6 +1,6 @@
 -- What the inner functions promise besides. No public promise rests on this page.
-use Rattle.std.specs.Prelude.{◌≡◌, ℕ, ◌+◌, ◌^◌, ◌<◌, cond, List, take, drop, ◌==◌}
-use Rattle.hex_text.specs.declared.Word.{Word}
+use Rattle.std.specs.Prelude.{◌≡◌, ℕ, ◌+◌, ◌^◌, ◌<◌, cond, List, length, take, drop, ◌==◌}
+use Rattle.hex_text.specs.declared.words.Word.{Word}
 use Rattle.hex_text.specs.Reading.{ended}
 
 -- A word's number is one that its digits can write.
@@ -12,3 +12,4 @@ pub record Ends (w : Word) (buffer : List ℕ) (count : ℕ) (after : List ℕ) 
   pub counted : n ≡ cond (w.digits == 0) count (count + 1)
   pub words : take n after ≡ ended (take count buffer) w
   pub rest : drop n after ≡ drop n buffer
+  pub size : length after ≡ length buffer
