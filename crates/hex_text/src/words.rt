@@ -48,8 +48,7 @@ impl Written<'_> {
     // Ends a word: where it has a digit, it goes after the words that are there.
     pub fn end(&mut self, word: Word)
         requires room { 0 < word.digits → self.old.count < length self.old.buffer.now }
-        ensures end { Ends word self.old.buffer.now self.old.count self.new.buffer.now self.new.count }
-        ensures lender { self.new.buffer.ghost_name ≡ self.old.buffer.ghost_name }
+        ensures { Ends word self.old self.new }
     {
         if word.digits > 0 {
             self.buffer[self.count] = word.value;
