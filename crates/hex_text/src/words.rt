@@ -6,20 +6,20 @@ ghost use Rattle.hex_text.specs.Reading.{lengthened};
 
 // The word that is being read: how many digits it has so far, and the number that they write.
 #[derive(Clone, Copy, Default)]
-pub struct Word {
+pub(crate) struct Word {
     digits: u32,
     value: u32,
 }
 
 // The caller's buffer, with the words that ended in its front.
 #[derive(Drop)]
-pub struct Written<'a> {
-    pub buffer: &'a mut [u32],
-    pub count: usize,
+pub(crate) struct Written<'a> {
+    pub(crate) buffer: &'a mut [u32],
+    pub(crate) count: usize,
 }
 
 // Whether a byte stands between words.
-pub fn is_white(byte: u8) -> bool
+pub(crate) fn is_white(byte: u8) -> bool
     ensures { result ≡ white byte }
 {
     matches!(byte, b' ' | b'\t' | b'\n' | b'\r')
@@ -28,7 +28,7 @@ pub fn is_white(byte: u8) -> bool
 impl Word {
     // The word with a byte for its next digit, or none where it cannot take that byte.
     #[tactic(auto, using(crate::proofs::Steps::below_room))]
-    pub fn lengthen(self, byte: u8) -> Option<Word>
+    pub(crate) fn lengthen(self, byte: u8) -> Option<Word>
         requires range { InRange self }
         ensures value { result ≡ lengthened self byte }
         ensures range { IfSome result InRange }
@@ -46,7 +46,7 @@ impl Word {
 
 impl Written<'_> {
     // Ends a word: where it has a digit, it goes after the words that are there.
-    pub fn end(&mut self, word: Word)
+    pub(crate) fn end(&mut self, word: Word)
         requires room { 0 < word.digits → self.old.count < length self.old.buffer.now }
         ensures { Ends word self.old self.new }
     {
