@@ -1,28 +1,19 @@
 -- The text of words is read as these words: digit by digit, and then word by word.
 use Rattle.std.proofs.Common.{◌≡◌, ℕ, zero, suc, ◌+◌, ◌*◌, ◌/◌, ◌%◌, ◌^◌, ◌<◌, ◌≤◌, true, false, eqb, ltb, List, [], ◌∷◌, ◌++◌, Some, sym, ap, ◌∙◌, pow-suc, arith}
 use Rattle.std.proofs.lemmas.List.{append_assoc, append-nil}
-use Rattle.std.proofs.lemmas.Bool.{lt-ltb}
 use Rattle.std.proofs.lemmas.Bool.Decides.{nat_tests}
 use Rattle.std.specs.List.{AllByRecursion}
-use Rattle.hex_text.specs.declared.Passed.{Passed}
 use Rattle.hex_text.specs.Bytes.{white, hex_digit}
-use Rattle.hex_text.specs.Reading.{no_word, complete, read_on, reading}
+use Rattle.hex_text.specs.Reading.{Passed, no_word, complete, read_on, reading}
 use Rattle.hex_text.specs.Writing.{digit_byte, low_digits, text_of, TextReadsBack}
 
--- The byte of a digit is no white space, and stands for that digit.
-digit_dark : (d : ℕ) → d < 16 → white (digit_byte d) ≡ false
-digit_dark d h = grind (arith, nat_tests)
-
-digit_inline : (d : ℕ) → d < 16 → eqb (digit_byte d) 10 ≡ false
-digit_inline d h = grind (arith, nat_tests)
-
-digit_back : (d : ℕ) → d < 16 → hex_digit (digit_byte d) ≡ Some d
-digit_back d h = grind (arith, nat_tests)
-
--- A byte that stands for a digit goes onto a word of fewer than eight digits.
-byte_read : (ws : List ℕ) (k v : ℕ) (p : Passed) (b d : ℕ) (rest : List ℕ) → k < 8 → white b ≡ false → eqb b 10 ≡ false → hex_digit b ≡ Some d → read_on ws (record { digits = k; value = v }) p (b ∷ rest) ≡ read_on ws (record { digits = k + 1; value = v * 16 + d }) (record { lines = p.lines; bytes = p.bytes + 1 }) rest
-byte_read ws k v p b d rest few dark inline back =
-    let room : ltb k 8 ≡ true = lt-ltb _ _ few in
+-- The byte of a digit goes onto a word of fewer than eight digits.
+digit_read : (ws : List ℕ) (k v : ℕ) (p : Passed) (d : ℕ) (rest : List ℕ) → k < 8 → d < 16 → read_on ws (record { digits = k; value = v }) p (digit_byte d ∷ rest) ≡ read_on ws (record { digits = k + 1; value = v * 16 + d }) (record { lines = p.lines; bytes = p.bytes + 1 }) rest
+digit_read ws k v p d rest few small =
+    let dark : white (digit_byte d) ≡ false = grind (arith, nat_tests) in
+    let inline : eqb (digit_byte d) 10 ≡ false = grind (arith, nat_tests) in
+    let back : hex_digit (digit_byte d) ≡ Some d = grind (arith, nat_tests) in
+    let room : ltb k 8 ≡ true = grind (arith, nat_tests) in
     rw (dark, room, back, inline)
 
 -- The low digits of a number that has no others are read as a word.
@@ -32,11 +23,10 @@ digits_read zero n ws p rest few range =
     let same : p.bytes + 0 ≡ p.bytes = omega arith in
     rw (none, same)
 digits_read (suc k) n ws p rest few range =
-    let d : n % 16 < 16 = omega arith in
     let split : low_digits (suc k) n ++ rest ≡ low_digits k (n / 16) ++ (digit_byte (n % 16) ∷ rest) = append_assoc (low_digits k (n / 16)) (digit_byte (n % 16) ∷ []) rest in
     let power = pow-suc 16 k in
     let high = digits_read k (n / 16) ws p (digit_byte (n % 16) ∷ rest) (omega arith) (omega arith) in
-    let low = byte_read ws k (n / 16) (record { lines = p.lines; bytes = p.bytes + k }) (digit_byte (n % 16)) (n % 16) rest (omega arith) (digit_dark _ d) (digit_inline _ d) (digit_back _ d) in
+    let low = digit_read ws k (n / 16) (record { lines = p.lines; bytes = p.bytes + k }) (n % 16) rest (omega arith) (omega arith) in
     let value : n / 16 * 16 + n % 16 ≡ n = omega arith in
     let digits : k + 1 ≡ suc k = omega arith in
     let bytes : p.bytes + k + 1 ≡ p.bytes + suc k = omega arith in

@@ -1,7 +1,7 @@
 -- What is printed of a refused text.
 use Rattle.std.specs.Prelude.{ℕ, List, ◌++◌, codes, decimal}
-use Rattle.hex_text.specs.declared.TextFault.{TextFault}
-use Rattle.hex_text.specs.declared.TextFault.TheVariants.{Long, Short, Stray}
+use Rattle.hex_text.specs.declared.faults.TextFault.{TextFault}
+use Rattle.hex_text.specs.declared.faults.TextFault.TheVariants.{Long, Short, Stray}
 
 abbrev pub fault_text : TextFault → List ℕ
 fault_text Long = codes "the text is longer than 1048576 bytes"

@@ -1,12 +1,15 @@
 -- Reading a text: its words, byte by byte, up to its end or to the first byte that no word can take.
 -- A Word is what is read of a word so far: how many digits, and the number that they write.
--- Passed is what of the text is behind: whole lines, and bytes of the line after them.
 use Rattle.std.specs.Prelude.{ℕ, ◌+◌, ◌*◌, cond, List, [], ◌∷◌, ◌++◌, length, drop, Some, None, Ok, Err, Option, Result, ◌==◌, nat_lt}
-use Rattle.hex_text.specs.declared.TextFault.{TextFault}
-use Rattle.hex_text.specs.declared.TextFault.TheVariants.{Long, Short, Stray}
-use Rattle.hex_text.specs.declared.Word.{Word}
-use Rattle.hex_text.specs.declared.Passed.{Passed}
+use Rattle.hex_text.specs.declared.faults.TextFault.{TextFault}
+use Rattle.hex_text.specs.declared.faults.TextFault.TheVariants.{Long, Short, Stray}
+use Rattle.hex_text.specs.declared.words.Word.{Word}
 use Rattle.hex_text.specs.Bytes.{white, hex_digit}
+
+-- What of a text is behind: whole lines, and bytes of the line after them.
+pub record Passed : Type 0 where
+  pub lines : ℕ
+  pub bytes : ℕ
 
 -- No word is being read: it has no digits.
 abbrev pub no_word : Word

@@ -1,35 +1,29 @@
-use Rattle.std.proofs.Common.{Err, sym, ap, ◌∙◌, arith, rules}
-use Rattle.hex_text.proofs.Back.{text_back}
-use Rattle.hex_text.proofs.Steps.{at_start, renamed, white_more, digit_more, stray_here, all_read}
+use Rattle.std.proofs.Common.{◌≡◌, ◌+◌, ◌-◌, get_or, sym, ◌∙◌, arith, rules}
+use Rattle.std.proofs.lemmas.Grind.{common_steps}
+use Rattle.hex_text.specs.Reading.{Passed, past}
+use Rattle.hex_text.proofs.Steps.{white_on, digit_on}
 use Rattle.hex_text.proofs.read_words.Goals as goal
-use Rattle.hex_text.proofs.read_words.Goals.{then-is_white, else-is_white+in-Some}
+use Rattle.hex_text.proofs.read_words.Goals.{then-is_white, else-is_white+in_ok-word}
 
-pub loop-byte-init : goal.loop-byte-init
-loop-byte-init c = at_start _ _ _ c.none-word.ensures
-
-pub returns-in_default : goal.returns-in_default
-returns-in_default c =
-    let o = stray_here c.loop-byte.invariant (omega arith) c.if-out-text.false c.loop-byte.auto.out c.loop-byte-test.true (search rules) (sym c.lengthen.ensures.value ∙ c.in_default.is) in
-    record { answer = ap Err c.stray.ensures ∙ o.answer; buffer = o.buffer; law = text_back }
-
-pub loop-byte-preserved : goal.loop-byte-preserved
-loop-byte-preserved c =
-    elim c.if-is_white.branch [
-      | then-is_white w ↦
-          renamed (white_more c.loop-byte.invariant {after = w.end-count.new.out} {n = w.end-count.result} c.loop-byte-test.true (search rules) (search rules))
-          w.out-is w.count-is (w.word-is ∙ w.none-word-then-is_white.ensures) c.past-passed.ensures
-      | else-is_white+in-Some w ↦
-          renamed (digit_more c.loop-byte.invariant c.loop-byte-test.true (search rules) (sym w.lengthen.ensures.value ∙ w.in-Some.is) w.in-Some.ensures.range)
-          w.out-is w.count-is w.word-is c.past-passed.ensures
-    ]
-
-pub returns : goal.returns
-returns c =
-    let o = all_read c.loop-byte.invariant {after = c.end.new.out} {n = c.end.result} (omega arith) c.if-out-text.false (c.end.auto.out ∙ c.loop-byte.auto.out) c.loop-byte.auto.byte-index-end c.loop-byte-test.false (search rules) in
-    record { answer = o.answer; buffer = o.buffer; law = text_back }
-
-pub returns-then-out-text : goal.returns-then-out-text
-returns-then-out-text c = record { answer = search rules; buffer = search rules; law = text_back }
-
-pub returns-then-text-gt-LONGEST : goal.returns-then-text-gt-LONGEST
-returns-then-text-gt-LONGEST c = record { answer = search rules; buffer = search rules; law = text_back }
+pub loop-at-preserved : goal.loop-at-preserved
+loop-at-preserved c = record {
+  reads =
+      let p : Passed = record { lines = c.loop-at.line - 1; bytes = c.loop-at.at - c.loop-at.line_start } in
+      let q : Passed = record { lines = c.if-byte-eq10.line - 1; bytes = c.loop-at.at + 1 - c.if-byte-eq10.line_start } in
+      let next : past p (get_or c.args.text.now c.loop-at.at 0) ≡ q = grind (arith, common_steps) in
+      elim c.if-is_white.branch [
+        | then-is_white w ↦ grind (arith, white_on)
+        | else-is_white+in_ok-word w ↦
+            let longer = sym w.lengthen.ensures.value ∙ w.in_ok-word.ensures.ok_part in
+            let on = digit_on _ _ _ _ p _ c.loop-at-test.true (search rules) longer in
+            rw (w.written-is, w.word-is, ← next) (sym on ∙ c.loop-at.invariant.reads)
+      ];
+  rest = grind (arith, common_steps);
+  room = search rules;
+  range = search rules;
+  line_from = search rules;
+  line_to = search rules;
+  start_to = search rules;
+  size = search rules;
+  lender = search rules;
+}
