@@ -9,7 +9,7 @@ use Rattle.message.specs.Kinds.{kind_of, carries_value, words_of}
 use Rattle.message.specs.Messages.{formed_as}
 use Rattle.packet.specs.declared.Packet.{Packet}
 use Rattle.packet.specs.Layout.{packet_words, source_fits, value_words, words_as}
-use Rattle.packet.specs.Writing.{code_as, sendable_as, sendable, write_answer}
+use Rattle.packet.specs.Writing.{answer_as, sendable_as, sendable, write_answer}
 
 -- The writer's three checks, all passed.
 passed : (formed source room : Bool) → given formed (Err Malformed) (given source (Err WrongSource) (given room (Err Full) accepted)) ≡ accepted
@@ -28,7 +28,7 @@ pub two_or_four : (b : Bool) → 2 ≤ cond b 4 2
 two_or_four true = omega arith
 two_or_four false = omega arith
 
-taken_as : (o : Option Kind) (p : Packet) (room : ℕ) → code_as o p room ≡ accepted → (sendable_as o p ≡ true) × (length (words_as o p) ≤ room)
+taken_as : (o : Option Kind) (p : Packet) (room : ℕ) → answer_as o p room ≡ accepted → (sendable_as o p ≡ true) × (length (words_as o p) ≤ room)
 taken_as None p room took = absurd (let z : ◌≡◌ {A = ℕ} 0 1 = cc in omega arith)
 taken_as (Some k) p room took =
     let checks = passed (formed_as (Some k) p.message) (source_fits k p.source) (leb (words_of k) room) took in
@@ -57,7 +57,7 @@ all_pass true true room can fits = rw fits
 all_pass true false room can fits = absurd (let z : ◌≡◌ {A = ℕ} 0 1 = cc in omega arith)
 all_pass false source room can fits = absurd (let z : ◌≡◌ {A = ℕ} 0 1 = cc in omega arith)
 
-accepts_as : (o : Option Kind) (p : Packet) (room : ℕ) → sendable_as o p ≡ true → length (words_as o p) ≤ room → code_as o p room ≡ accepted
+accepts_as : (o : Option Kind) (p : Packet) (room : ℕ) → sendable_as o p ≡ true → length (words_as o p) ≤ room → answer_as o p room ≡ accepted
 accepts_as None p room can fits = absurd (let z : ◌≡◌ {A = ℕ} 0 1 = cc in omega arith)
 accepts_as (Some k) p room can fits =
     all_pass (formed_as (Some k) p.message) (source_fits k p.source) (leb (words_of k) room) can (le-leb (words_of k) room (rw (size_as (carries_value k)) at fits))
