@@ -1,14 +1,10 @@
 -- What is written is read back.
-use Rattle.std.proofs.Common.{◌≡◌, ℕ, true, List, ◌++◌, length, Some, None, Ok, Option, refl, arith, rules}
-use Rattle.std.proofs.lemmas.Grind.{common_steps}
+use Rattle.std.proofs.Common.{◌≡◌, ℕ, true, List, ◌++◌, length, Ok, rules}
 use Rattle.message.specs.Refusals.{accepted}
-use Rattle.message.specs.declared.kinds.Kind.{Kind}
-use Rattle.message.specs.Kinds.{kind_of}
-use Rattle.message.proofs.Opcodes.{kind_of_opcode, opcode_of_kind, opcode_small}
 use Rattle.packet.specs.declared.Packet.{Packet}
-use Rattle.packet.specs.Layout.{words_as, packet_words}
+use Rattle.packet.specs.Layout.{packet_words}
 use Rattle.packet.specs.Reading.{front_packet, packet_at}
-use Rattle.packet.specs.Writing.{sendable_as, sendable, write_answer, written}
+use Rattle.packet.specs.Writing.{sendable, write_answer, written}
 use Rattle.packet.proofs.Accepts.{accepted_sendable}
 
 -- What is written is read back, whatever follows it.

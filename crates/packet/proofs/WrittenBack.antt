@@ -1,5 +1,5 @@
 -- What is read is written back: the words that pass every check are the words of the packet that they say.
-use Rattle.std.proofs.Common.{◌≡◌, ℕ, ◌^◌, ◌<◌, ◌≤◌, true, eqb, leb, List, length, get_or, take, Some, None, Ok, Option, refl, subst, arith, rules}
+use Rattle.std.proofs.Common.{◌≡◌, ℕ, ◌^◌, ◌<◌, ◌≤◌, true, eqb, leb, List, length, get_or, Some, None, Ok, Option, refl, subst, rules}
 use Rattle.message.specs.declared.kinds.Kind.{Kind}
 use Rattle.message.specs.Kinds.{kind_of, words_of}
 use Rattle.packet.specs.declared.Packet.{Packet}

@@ -1,4 +1,4 @@
-use Rattle.std.proofs.Common.{◌≡◌, length, set, sym, rules}
+use Rattle.std.proofs.Common.{◌≡◌, length, set, rules}
 use Rattle.message.specs.Refusals.{accepted}
 use Rattle.packet.specs.Writing.{write_answer, written}
 use Rattle.packet.proofs.ReadBack.{accepted_read}
