@@ -1,4 +1,3 @@
-pub mod Bitfields
 pub mod Accepts
 pub mod ReadBack
 pub mod WrittenBack

@@ -1,7 +1,7 @@
 -- Packets one after another are read as they were written, and written as they were read.
-use Rattle.std.proofs.Common.{◌≡◌, ℕ, zero, suc, ◌+◌, ◌<◌, ◌≤◌, true, false, leb, List, [], ◌∷◌, ◌++◌, length, take, drop, Some, None, Ok, Err, Result, sym, refl, ap, ◌∙◌, arith, length-append}
+use Rattle.std.proofs.Common.{◌≡◌, ℕ, zero, suc, ◌+◌, ◌<◌, ◌≤◌, true, false, leb, List, [], ◌∷◌, ◌++◌, length, take, drop, Some, None, Ok, Err, Result, sym, refl, ap, ◌∙◌, arith, length-append, rules}
 use Rattle.std.proofs.lemmas.List.{append_assoc, append-nil, drop_all, drop_at, drop-drop, get_or-drop, take-append-drop}
-use Rattle.std.proofs.lemmas.Bool.{and_parts, le-leb, leb-true, lt-leb}
+use Rattle.std.proofs.lemmas.Bool.{leb-true}
 use Rattle.packet.specs.declared.Fault.{Fault}
 use Rattle.packet.specs.declared.Packet.{Packet}
 use Rattle.packet.specs.Layout.{packet_words}
@@ -15,34 +15,34 @@ use Rattle.packet.proofs.WrittenBack.{Words, handed_out}
 -- One step of a walk: a packet, or a fault.
 pub walk_on : (more : ℕ) (words : List ℕ) (at : ℕ) (p : Packet) → at < length words → packet_at words at ≡ Ok p
     → walk_from (suc more) words at ≡ onward p (walk_from more words (at + length (packet_words p)))
-walk_on more words at p here is = let open_end : leb (length words) at ≡ false = lt-leb _ _ here in rw (open_end, is)
+walk_on more words at p here is = search rules
 
 pub walk_stop : (more : ℕ) (words : List ℕ) (at : ℕ) (f : Fault) → at < length words → packet_at words at ≡ Err f
     → walk_from (suc more) words at ≡ record { packets = []; fault = Some f }
-walk_stop more words at f here is = let open_end : leb (length words) at ≡ false = lt-leb _ _ here in rw (open_end, is)
+walk_stop more words at f here is = search rules
 
 -- A walk at the end of the words.
 pub walk_end : (more : ℕ) (words : List ℕ) (at : ℕ) → length words ≤ at → walk_from more words at ≡ ended []
 walk_end zero words at end = refl
-walk_end (suc more) words at end = let done : leb (length words) at ≡ true = le-leb _ _ end in rw done
+walk_end (suc more) words at end = search rules
 
 -- Packets that can be sent, after whatever words, are walked as these packets.
 walked : (ps : List Packet) (before : List ℕ) (more : ℕ) → all_sendable ps ≡ true → length (stream ps) ≤ more
     → walk_from more (before ++ stream ps) (length before) ≡ ended ps
 walked [] before more can room = walk_end more (before ++ []) (length before) (rw append-nil (omega arith))
 walked (p ∷ ps) before zero can room =
-    let some = sendable_some p (and_parts (sendable p) (all_sendable ps) can).0 in
+    let some = sendable_some p (search rules) in
     let long = length-append (packet_words p) (stream ps) in
     absurd (omega arith)
 walked (p ∷ ps) before (suc more) can room =
-    let parts = and_parts (sendable p) (all_sendable ps) can in
-    let some = sendable_some p parts.0 in
+    let can_first : sendable p ≡ true = search rules in
+    let some = sendable_some p can_first in
     let long = length-append (packet_words p) (stream ps) in
     let all = length-append before (packet_words p ++ stream ps) in
     let front = drop_at before (packet_words p ++ stream ps) (length before) refl in
     let first : packet_at (before ++ (packet_words p ++ stream ps)) (length before) ≡ Ok p =
-    rw front (written_read p (length before) (length (before ++ (packet_words p ++ stream ps))) (stream ps) parts.0) in
-    let rest = walked ps (before ++ packet_words p) more parts.1 (omega arith) in
+    rw front (written_read p (length before) (length (before ++ (packet_words p ++ stream ps))) (stream ps) can_first) in
+    let rest = walked ps (before ++ packet_words p) more (search rules) (omega arith) in
     walk_on more (before ++ (packet_words p ++ stream ps)) (length before) p (omega arith) first
     ∙ ap (onward p) (rw (append_assoc, length-append) at rest)
 
@@ -57,7 +57,7 @@ fits_on words at fit i = rw get_or-drop (fit (at + i))
 first_again : (answer : Result Packet Fault) (words : List ℕ) (at : ℕ) (on : Packet → Walk) → Words words → packet_at words at ≡ answer
     → ((p : Packet) → 2 ≤ length (packet_words p) → (on p).fault ≡ None → stream (on p).packets ≡ drop (at + length (packet_words p)) words)
     → (led_by answer on).fault ≡ None → stream (led_by answer on).packets ≡ drop at words
-first_again (Err f) words at on fit is later whole = absurd (let z : ◌≡◌ {A = ℕ} 0 1 = cc in omega arith)
+first_again (Err f) words at on fit is later whole = cc
 first_again (Ok p) words at on fit is later whole =
     let handed = handed_out at (length words) (drop at words) p (fits_on words at fit) is in
     let size = length (packet_words p) in

@@ -1,4 +1,5 @@
 pub mod Layout
+pub mod Headers
 pub mod Reading
 pub mod Writing
 pub mod Streams

@@ -18,16 +18,16 @@ abbrev pub sendable : Packet → Bool
 sendable p = sendable_as (kind_of p.message.opcode) p
 
 -- The writer's answer, given the room: is the message well formed, then does its source go with its kind, then is there room?
-abbrev pub code_as : Option Kind → Packet → ℕ → Answer
-code_as None p room = (Err Malformed)
-code_as (Some k) p room =
+abbrev pub answer_as : Option Kind → Packet → ℕ → Answer
+answer_as None p room = Err Malformed
+answer_as (Some k) p room =
     given (formed_as (Some k) p.message) (Err Malformed)
     (given (source_fits k p.source) (Err WrongSource)
     (given (nat_le (words_of k) room) (Err Full)
     accepted))
 
 abbrev pub write_answer : Packet → ℕ → Answer
-write_answer p room = code_as (kind_of p.message.opcode) p room
+write_answer p room = answer_as (kind_of p.message.opcode) p room
 
 -- A buffer with words laid over its front.
 abbrev pub laid_over : List ℕ → List ℕ → List ℕ

@@ -1,59 +1,79 @@
-// The fields of a header and the halves of a value, each by one shift or mask.
+// The header of a packet and the halves of a value, by shifts and masks.
 ghost use Rattle.std.specs.Prelude.{◌≡◌, ◌/◌, ◌%◌, ◌^◌};
-ghost use Rattle.packet.specs.Layout.{header, opcode_in, length_in, source_in, value_in, source_fits};
+ghost use Rattle.packet.specs.Headers.{header_in};
+ghost use Rattle.packet.specs.Layout.{header, source_fits, value_in};
 
-use message::Kind;
+use message::{Kind, Refusal};
 
-/// The header of a packet of a kind.
-pub(crate) fn header_of(kind: Kind, source: u16) -> u32
-    ensures { result ≡ header kind source }
-{
-    (source as u32) << 16 | (kind.words() as u32) << 8 | u8::from(kind) as u32
+/// What a header says: the kind of its packet, which has the opcode and the length, and the source.
+#[derive(Clone, Copy)]
+pub(crate) struct Header {
+    pub kind: Kind,
+    pub source: u16,
 }
 
-pub(crate) fn opcode_in(head: u32) -> u8
-    ensures { result ≡ opcode_in head }
-{
-    (head & 0xff) as u8
+impl From<Header> for u32 {
+    ghost from_gives = { λ fields word. word ≡ header fields.kind fields.source };
+
+    fn from(header: Header) -> u32 {
+        let Header { kind, source } = header;
+        (u32::from(source) << 8 | kind.words() as u32) << 8 | u32::from(u8::from(kind))
+    }
 }
 
-pub(crate) fn length_in(head: u32) -> usize
-    ensures { result ≡ length_in head }
-{
-    (head >> 8 & 0xff) as usize
+impl TryFrom<u32> for Header {
+    type Error = Refusal;
+
+    ghost try_from_gives = { λ word answer. answer ≡ header_in word };
+
+    fn try_from(word: u32) -> Result<Header, Refusal> {
+        let kind = Kind::try_from((word & 0xff) as u8).map_err(|_| Refusal::UnknownOpcode)?;
+        if (word >> 8 & 0xff) as usize != kind.words() {
+            return Err(Refusal::WrongLength);
+        }
+        Ok(Header {
+            kind,
+            source: (word >> 16) as u16,
+        })
+    }
 }
 
-pub(crate) fn source_in(head: u32) -> u16
-    ensures { result ≡ source_in head }
-{
-    (head >> 16) as u16
+impl Header {
+    /// Whether packets of its kind may name its source.
+    pub(crate) fn source_fits(self) -> bool
+        ensures { result ≡ source_fits self.kind self.source }
+    {
+        if self.kind.goes_home() {
+            self.source <= 63
+        } else {
+            self.source == 64
+        }
+    }
 }
 
-pub(crate) fn low_half(value: u64) -> u32
-    ensures { result ≡ value % 2 ^ 32 }
-{
-    (value & 0xffff_ffff) as u32
+/// The two halves of a value.
+#[derive(Clone, Copy)]
+pub(crate) struct Halves {
+    pub low: u32,
+    pub high: u32,
 }
 
-pub(crate) fn high_half(value: u64) -> u32
-    ensures { result ≡ value / 2 ^ 32 }
-{
-    (value >> 32) as u32
+impl From<u64> for Halves {
+    ghost from_gives = { λ value halves. halves ≡ record { low = value % 2 ^ 32; high = value / 2 ^ 32 } };
+
+    fn from(value: u64) -> Halves {
+        Halves {
+            low: (value & 0xffff_ffff) as u32,
+            high: (value >> 32) as u32,
+        }
+    }
 }
 
-pub(crate) fn value_in(low: u32, high: u32) -> u64
-    ensures { result ≡ value_in low high }
-{
-    (high as u64) << 32 | low as u64
-}
+impl From<Halves> for u64 {
+    ghost from_gives = { λ halves value. value ≡ value_in halves.low halves.high };
 
-/// Whether packets of a kind may name a source.
-pub(crate) fn fits_source(kind: Kind, source: u16) -> bool
-    ensures { result ≡ source_fits kind source }
-{
-    if kind.goes_home() {
-        source <= 63
-    } else {
-        source == 64
+    fn from(halves: Halves) -> u64 {
+        let Halves { low, high } = halves;
+        u64::from(high) << 32 | u64::from(low)
     }
 }

@@ -2,7 +2,7 @@
 
 #![tactic(auto)]
 
-use message::{Refusal, Kind, Message};
+use message::{Kind, Message, Refusal};
 
 mod examples;
 mod fields;

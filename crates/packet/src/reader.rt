@@ -1,43 +1,46 @@
 // The reader: the packet at a place among words, taken apart by its kind.
-ghost use Rattle.std.specs.Prelude.{◌≡◌, ◌+◌, length, drop, IfOk, nat_le};
-ghost use Rattle.packet.specs.Reading.{Handed, answer, front_packet, packet_at, place_after};
+ghost use Rattle.std.specs.Prelude.{◌≡◌, ◌+◌, ◌^◌, ◌<◌, length, drop, IfOk, nat_le, MatchOption, ◌≤◌};
+ghost use Rattle.message.specs.Kinds.{words_of};
+ghost use Rattle.message.specs.Messages.{message_of};
+ghost use Rattle.packet.specs.Reading.{Handed, answer, front_packet, packet_at, place_after, said};
 
-use crate::fields::{fits_source, length_in, opcode_in, source_in, value_in};
+use crate::fields::{Halves, Header};
 use crate::{Fault, Found, Packet};
-use message::{Refusal, Kind, Message};
+use message::{Kind, Message, Refusal};
 
-/// The packet at the front of words that begin at a place and end at another.
-fn read_front(front: &[u32], at: usize, end: usize) -> Result<Found<'_>, Fault>
-    requires { at + length front.now ≡ end }
-    ensures value { answer result ≡ front_packet at end front.now }
+/// The record and the value in a packet of a kind at the front of words, where all words of the packet are there.
+fn record_and_value(kind: Kind, front: &[u32]) -> Option<(u32, u64)>
+    ensures { MatchOption result (length front.now < words_of kind)
+        (λ (about, value). (words_of kind ≤ length front.now) × (message_of kind about value ≡ (said kind front.now).message)) }
+{
+    match front {
+        [_, record, low, high, ..] if kind.carries_value() => {
+            let halves = Halves {
+                low: *low,
+                high: *high,
+            };
+            Some((*record, u64::from(halves)))
+        }
+        [_, record, ..] if !kind.carries_value() => Some((*record, 0)),
+        _ => None,
+    }
+}
+
+/// The packet at the front of words that begin at a place, or the first fault there.
+fn read_front(front: &[u32], at: usize) -> Result<Found<'_>, Fault>
+    requires { at + length front.now < 2 ^ 64 }
+    ensures value { answer result ≡ front_packet at (at + length front.now) front.now }
     ensures handed { IfOk result (λ f. Handed front.now f) }
 {
     let missing = Fault {
         refusal: Refusal::MissingWords,
-        place: end,
+        place: at + front.len(),
     };
-    let [head, ..] = front else {
-        return Err(missing);
-    };
-    let Ok(kind) = Kind::try_from(opcode_in(*head)) else {
-        return Err(Fault {
-            refusal: Refusal::UnknownOpcode,
-            place: at,
-        });
-    };
-    if length_in(*head) != kind.words() {
-        return Err(Fault {
-            refusal: Refusal::WrongLength,
-            place: at,
-        });
-    }
-    let (record, value) = match front {
-        [_, record, low, high, ..] if kind.carries_value() => (*record, value_in(*low, *high)),
-        [_, record, ..] if !kind.carries_value() => (*record, 0),
-        _ => return Err(missing),
-    };
-    let source = source_in(*head);
-    if !fits_source(kind, source) {
+    let head = front.first().ok_or(missing)?;
+    let header = Header::try_from(*head).map_err(|refusal| Fault { refusal, place: at })?;
+    let Header { kind, source } = header;
+    let (record, value) = record_and_value(kind, front).ok_or(missing)?;
+    if !header.source_fits() {
         return Err(Fault {
             refusal: Refusal::WrongSource,
             place: at,
@@ -55,7 +58,7 @@ fn read_front(front: &[u32], at: usize, end: usize) -> Result<Found<'_>, Fault>
             source,
             message: Message::new(kind, record, value),
         },
-        words: &front[0..kind.words()],
+        words: &front[..kind.words()],
     })
 }
 
@@ -64,14 +67,11 @@ pub fn read(words: &[u32], at: usize) -> Result<Found<'_>, Fault>
     ensures value { answer result ≡ packet_at words.now at }
     ensures handed { IfOk result (λ f. Handed (drop at words.now) f) }
 {
-    let end = words.len();
-    if at >= end {
-        return Err(Fault {
-            refusal: Refusal::MissingWords,
-            place: end,
-        });
-    }
-    read_front(&words[at..], at, end)
+    let front = words.get(at..).ok_or(Fault {
+        refusal: Refusal::MissingWords,
+        place: words.len(),
+    })?;
+    read_front(front, at)
 }
 
 /// Walks words from the first on, and hands out one packet after another.
@@ -94,8 +94,7 @@ impl<'a> Reader<'a> {
     pub fn place(&self) -> usize
         ensures { result ≡ self.now.at }
     {
-        let Reader { at, .. } = *self;
-        at
+        self.at
     }
 
     /// Whether it has come to the end of the words.

@@ -1,25 +1,13 @@
 -- Words that are laid over a buffer from a place on.
-use Rattle.std.proofs.Common.{◌≡◌, ℕ, ◌+◌, ◌-◌, ◌≤◌, List, ◌++◌, length, take, drop, sym, refl, ap, ◌∙◌, arith, length-append, length-drop}
-use borrow.Rule.Slice.PartMut.{put_mid}
-use Rattle.std.proofs.lemmas.List.{append_assoc, append-nil, drop_all, drop_at, drop-drop, length-take-le, take-append-drop, take_at}
+use Rattle.std.proofs.Common.{◌≡◌, ℕ, ◌+◌, ◌-◌, ◌≤◌, List, ◌++◌, length, take, drop, sym, ap, ◌∙◌, arith, length-append, length-drop}
+use Rattle.std.proofs.lemmas.List.{append_assoc, drop_at, drop-drop, length-take-le, take-append-drop, take_at}
 use Rattle.packet.specs.Writing.{laid_over}
-
--- A write to all of a buffer from a place on leaves what was before that place.
-pub put_rest : (old new : List ℕ) (at : ℕ) → put_mid at (length old - at) old new ≡ take at old ++ new
-put_rest old new at =
-    let long = length-drop at old in
-    let few : length (drop at old) ≤ length old - at = omega arith in
-    ap (λ (back : List ℕ). take at old ++ (new ++ back)) (drop_all (length old - at) (drop at old) few)
-    ∙ ap (λ (words : List ℕ). take at old ++ words) (append-nil new)
 
 -- A buffer that is written up to a place, and from there on is as it was.
 pub record Filled (old out : List ℕ) (at : ℕ) : Type 0 where
   pub within : at ≤ length old
   pub same : drop at out ≡ drop at old
   pub long : length out ≡ length old
-
-pub unfilled : (old : List ℕ) → Filled old old 0
-unfilled old = record { within = omega arith; same = refl; long = refl }
 
 -- Words at that place fill it further.
 pub filled_on : (old out words : List ℕ) (at : ℕ) → Filled old out at → length words ≤ length old - at

@@ -1,7 +1,7 @@
 -- Words that are read and written again.
-use Rattle.std.proofs.Common.{◌≡◌, ℕ, suc, ◌+◌, ◌-◌, ◌<◌, ◌≤◌, true, false, leb, List, [], ◌++◌, length, take, drop, None, Ok, Err, Result, sym, refl, ap, ◌∙◌, subst, arith, length-drop, take-add}
+use Rattle.std.proofs.Common.{◌≡◌, ℕ, suc, ◌+◌, ◌-◌, ◌<◌, ◌≤◌, true, leb, List, [], ◌++◌, length, take, drop, Ok, Err, sym, ap, ◌∙◌, subst, arith, length-drop, take-add}
 use Rattle.std.proofs.lemmas.List.{append_assoc, append-nil}
-use Rattle.std.proofs.lemmas.Bool.{le-leb, leb-false, leb-true}
+use Rattle.std.proofs.lemmas.Bool.{le-leb}
 use Rattle.packet.specs.declared.Fault.{Fault}
 use Rattle.packet.specs.declared.Packet.{Packet}
 use Rattle.packet.specs.Layout.{packet_words}
@@ -10,7 +10,7 @@ use Rattle.packet.specs.Streams.{Walk, stream, walk, walk_from}
 use Rattle.stream.specs.Rewriting.{rewrite_answer, rewritten}
 use Rattle.packet.specs.Writing.{laid_over, written}
 use Rattle.packet.proofs.Accepts.{sendable_accepted}
-use Rattle.stream.proofs.Overlays.{Filled, filled_is, filled_on, unfilled}
+use Rattle.stream.proofs.Overlays.{Filled, filled_is, filled_on}
 use Rattle.packet.proofs.Walks.{walk_end, walk_on, walk_stop}
 
 -- With a place reached and so many packets found: what was written is what was read, and the rest of the walk makes it whole.
@@ -23,20 +23,6 @@ pub record Rewriting (words old out : List ℕ) (at count : ℕ) : Type 0 where
   pub found : take at words ++ stream (walk_from (length words - count) words at).packets ≡ stream (walk words).packets
   pub total : count + length (walk_from (length words - count) words at).packets ≡ length (walk words).packets
   pub fault : (walk_from (length words - count) words at).fault ≡ (walk words).fault
-
-pub rewriting : (words old : List ℕ) → length words ≤ length old → Rewriting words old old 0 0
-rewriting words old roomy =
-    let all : length words - 0 ≡ length words = omega arith in
-    record {
-      filled = unfilled old;
-      same = refl;
-      within = omega arith;
-      roomy = roomy;
-      few = omega arith;
-      found = ap (λ (more : ℕ). stream (walk_from more words 0).packets) all;
-      total = omega (arith, ap (λ (more : ℕ). length (walk_from more words 0).packets) all);
-      fault = ap (λ (more : ℕ). (walk_from more words 0).fault) all;
-    }
 
 -- One packet more.
 pub rewriting_on : (words old out after part : List ℕ) (at count : ℕ) (p : Packet) → Rewriting words old out at count → at < length words
@@ -84,13 +70,13 @@ written_again words old out at count before none =
 
 -- A walk that has come to the end of the words.
 pub rewriting_done : (words old out : List ℕ) (at count : ℕ) → Rewriting words old out at count → length words ≤ at
-    → (Ok count ≡ rewrite_answer words (length old)) × (out ≡ rewritten words old) × (out ≡ laid_over (stream (walk words).packets) old) × ((walk words).fault ≡ None)
+    → (Ok count ≡ rewrite_answer words (length old)) × (out ≡ rewritten words old)
 rewriting_done words old out at count before end =
     let roomy : leb (length words) (length old) ≡ true = le-leb _ _ before.roomy in
     let done = walk_end (length words - count) words at end in
     let held = written_again words old out at count before (ap (λ (w : Walk). w.packets) done) in
     let whole = sym before.fault ∙ ap (λ (w : Walk). w.fault) done in
-    (rw (roomy, whole) (ap (λ (n : ℕ). Ok n) held.1), held.0, rw roomy at held.0, whole)
+    (rw (roomy, whole) (ap (λ (n : ℕ). Ok n) held.1), held.0)
 
 -- A walk that is stopped by a fault.
 pub rewriting_stopped : (words old out : List ℕ) (at count : ℕ) (f : Fault) → Rewriting words old out at count → at < length words → packet_at words at ≡ Err f
@@ -102,16 +88,3 @@ rewriting_stopped words old out at count f before here is =
     let held = written_again words old out at count before (ap (λ (w : Walk). w.packets) stop) in
     let met = sym before.fault ∙ ap (λ (w : Walk). w.fault) stop in
     (rw (roomy, met), held.0)
-
--- What a reader that walks the words has said.
-pub not_at_end : (seen words : List ℕ) (at : ℕ) → seen ≡ words → false ≡ leb (length seen) at → at < length words
-not_at_end seen words at reads said = rw (← reads) (leb-false (length seen) at (sym said))
-
-pub at_end : (seen words : List ℕ) (at : ℕ) → seen ≡ words → true ≡ leb (length seen) at → length words ≤ at
-at_end seen words at reads said = rw (← reads) (leb-true (length seen) at (sym said))
-
-pub read_at : (seen words : List ℕ) (at : ℕ) (answer : Result Packet Fault) → seen ≡ words → answer ≡ packet_at seen at → packet_at words at ≡ answer
-read_at seen words at answer reads said = rw (← reads) (sym said)
-
-pub handed_at : (seen words part : List ℕ) (at : ℕ) (p : Packet) → seen ≡ words → Stands (drop at seen) p part → Stands (drop at words) p part
-handed_at seen words part at p reads handed = rw (← reads) handed

@@ -1,16 +1,15 @@
 -- Packets that are written one after another.
-use Rattle.std.proofs.Common.{◌≡◌, ℕ, ◌+◌, ◌-◌, ◌<◌, ◌≤◌, true, false, cond, List, [], ◌∷◌, ◌++◌, length, get_or, take, drop, sym, refl, ap, ◌∙◌, subst, arith, length-drop, is_ok}
-use Rattle.std.proofs.lemmas.List.{append_assoc, append-nil, drop_all, drop_more, take-append-drop}
+use Rattle.std.proofs.Common.{◌≡◌, ℕ, ◌+◌, ◌-◌, ◌<◌, true, false, List, [], ◌∷◌, ◌++◌, length, get_or, take, drop, sym, refl, ap, ◌∙◌, subst, arith, length-drop, is_ok, rules}
+use Rattle.std.proofs.lemmas.List.{append_assoc, drop_more}
 use Rattle.std.proofs.lemmas.Bool.{both_ways}
-use Rattle.message.proofs.Accepts.{accepted_only}
 use Rattle.message.specs.Refusals.{Answer, accepted}
 use Rattle.packet.specs.declared.Packet.{Packet}
 use Rattle.packet.specs.Layout.{packet_words}
 use Rattle.packet.specs.Streams.{all_sendable, ended, stream, walk}
-use Rattle.stream.specs.Sending.{stream_answer, taken, written_all}
+use Rattle.stream.specs.Sending.{stream_answer, taken}
 use Rattle.packet.specs.Writing.{laid_over, write_answer, written}
 use Rattle.packet.proofs.Accepts.{accepted_room, accepted_sendable}
-use Rattle.stream.proofs.Overlays.{Filled, filled_is, filled_on, unfilled}
+use Rattle.stream.proofs.Overlays.{Filled, filled_on}
 use Rattle.packet.proofs.Walks.{streams_read_back}
 
 -- The packet that the checker reads past the end of a list.
@@ -23,30 +22,15 @@ pub record Sending (ps : List Packet) (old out : List ℕ) (i at : ℕ) : Type 0
   pub words : take at out ++ stream (taken (drop i ps) (length old - at)) ≡ stream (taken ps (length old))
   pub code : stream_answer (drop i ps) (length old - at) ≡ stream_answer ps (length old)
 
--- What a call that writes packets leaves and answers.
-pub record Sent (ps : List Packet) (old out : List ℕ) (c : Answer) (n : ℕ) : Type 0 where
-  pub code : c ≡ stream_answer ps (length old)
-  pub count : n ≡ length (stream (taken ps (length old)))
-  pub words : out ≡ written_all ps old
-  pub all : c ≡ accepted → taken ps (length old) ≡ ps
-  pub back : walk (take n out) ≡ ended (taken ps (length old))
-
-pub sending : (ps : List Packet) (old : List ℕ) → Sending ps old old 0 0
-sending ps old =
-    let all : length old - 0 ≡ length old = omega arith in
-    record { filled = unfilled old; words = ap (λ (room : ℕ). stream (taken ps room)) all; code = ap (stream_answer ps) all }
-
 -- What is taken can be sent.
 taken_sendable : (ps : List Packet) (room : ℕ) → all_sendable (taken ps room) ≡ true
 taken_sendable [] room = refl
 taken_sendable (p ∷ ps) room =
-    elim (is_ok (write_answer p room)) as (λ b. is_ok (write_answer p room) ≡ b → all_sendable (cond b (p ∷ taken ps (room - length (packet_words p))) []) ≡ true) [
-      | true ↦ λ took. rw (accepted_sendable p room (accepted_only (write_answer p room) took), taken_sendable ps (room - length (packet_words p)))
-      | false ↦ λ left. refl
-    ] refl
+    let rest = taken_sendable ps (room - length (packet_words p)) in
+    search (rules, accepted_sendable)
 
 -- Where no packet is refused, all are taken.
-all_taken : (ps : List Packet) (room : ℕ) → stream_answer ps room ≡ accepted → taken ps room ≡ ps
+pub all_taken : (ps : List Packet) (room : ℕ) → stream_answer ps room ≡ accepted → taken ps room ≡ ps
 all_taken [] room whole = refl
 all_taken (p ∷ ps) room whole =
     elim (is_ok (write_answer p room)) as (λ b. is_ok (write_answer p room) ≡ b → taken (p ∷ ps) room ≡ p ∷ ps) [
@@ -54,12 +38,9 @@ all_taken (p ∷ ps) room whole =
       | false ↦ λ refused. absurd (both_ways (is_ok (write_answer p room)) refused (ap is_ok (rw refused at whole)))
     ] refl
 
--- A buffer whose written front is the whole stream.
-sent : (ps : List Packet) (old out : List ℕ) (c : Answer) (at : ℕ) → Filled old out at → take at out ≡ stream (taken ps (length old))
-    → c ≡ stream_answer ps (length old) → Sent ps old out c at
-sent ps old out c at filled is code =
-    let held = filled_is old out (stream (taken ps (length old))) at filled is in
-    record { code = code; count = sym held.0; words = held.1; all = λ whole. all_taken ps (length old) (sym code ∙ whole); back = rw is (streams_read_back (taken ps (length old)) (taken_sendable ps (length old))) }
+-- A walk over what was written finds what was taken.
+pub found_back : (ps : List Packet) (room : ℕ) (front : List ℕ) → front ≡ stream (taken ps room) → walk front ≡ ended (taken ps room)
+found_back ps room front is = rw is (streams_read_back (taken ps room) (taken_sendable ps room))
 
 -- One packet more that is accepted.
 taken_on : (p : Packet) (ps : List Packet) (room : ℕ) → is_ok (write_answer p room) ≡ true
@@ -74,7 +55,7 @@ went_on ps old out i at p before next took =
     let left : length (drop at out) ≡ room = length-drop at out ∙ ap (λ (n : ℕ). n - at) before.filled.long in
     let same : is_ok (write_answer p room) ≡ true = rw (← before.filled.long) took in
     let put : laid_over (packet_words p) (drop at out) ≡ written p (drop at out) = rw (left, same) in
-    let step = filled_on old out (packet_words p) at before.filled (accepted_room p room (accepted_only (write_answer p room) same)) in
+    let step = filled_on old out (packet_words p) at before.filled (accepted_room p room (search rules)) in
     let more = taken_on p (drop (i + 1) ps) room same in
     let rest : length old - (at + size) ≡ room - size = omega arith in
     let tail : stream (taken (drop i ps) room) ≡ packet_words p ++ stream (taken (drop (i + 1) ps) (length old - (at + size))) =
@@ -95,34 +76,3 @@ pub sending_on : (ps : List Packet) (old out after : List ℕ) (i at size : ℕ)
     → size ≡ length (packet_words (get_or ps i zeros)) → Sending ps old after (i + 1) (at + size)
 sending_on ps old out after i at size c before here words code took long =
     rw (words, long) (went_on ps old out i at (get_or ps i zeros) before (drop_more ps i zeros here) (sym (took ∙ ap is_ok code)))
-
--- A packet that is refused ends it.
-taken_not : (p : Packet) (ps : List Packet) (room : ℕ) → is_ok (write_answer p room) ≡ false
-    → (taken (p ∷ ps) room ≡ []) × (stream_answer (p ∷ ps) room ≡ write_answer p room)
-taken_not p ps room refused = (rw refused, rw refused)
-
-stopped : (ps : List Packet) (old out : List ℕ) (i at : ℕ) (p : Packet) → Sending ps old out i at → drop i ps ≡ p ∷ drop (i + 1) ps
-    → is_ok (write_answer p (length out - at)) ≡ false → Sent ps old (take at out ++ written p (drop at out)) (write_answer p (length out - at)) at
-stopped ps old out i at p before next refused =
-    let room : length out - at ≡ length old - at = ap (λ (n : ℕ). n - at) before.filled.long in
-    let none = taken_not p (drop (i + 1) ps) (length out - at) refused in
-    let left : drop at out ≡ written p (drop at out) = rw (length-drop at out, refused) in
-    let front : take at out ≡ stream (taken ps (length old)) =
-    sym (append-nil (take at out))
-    ∙ ap (λ (qs : List Packet). take at out ++ stream qs) (sym none.0 ∙ ap (taken (p ∷ drop (i + 1) ps)) room ∙ ap (λ (qs : List Packet). taken qs (length old - at)) (sym next))
-    ∙ before.words in
-    let code = sym none.1 ∙ ap (stream_answer (p ∷ drop (i + 1) ps)) room ∙ ap (λ (qs : List Packet). stream_answer qs (length old - at)) (sym next) ∙ before.code in
-    subst (λ (buffer : List ℕ). Sent ps old buffer (write_answer p (length out - at)) at)
-    (sym (take-append-drop at out) ∙ ap (λ (back : List ℕ). take at out ++ back) left)
-    (sent ps old out (write_answer p (length out - at)) at before.filled front code)
-
-pub sending_stopped : (ps : List Packet) (old out after : List ℕ) (i at : ℕ) (c : Answer) → Sending ps old out i at → i < length ps
-    → after ≡ take at out ++ written (get_or ps i zeros) (drop at out) → c ≡ write_answer (get_or ps i zeros) (length out - at) → false ≡ is_ok c → Sent ps old after c at
-sending_stopped ps old out after i at c before here words code refused =
-    rw (words, code) (stopped ps old out i at (get_or ps i zeros) before (drop_more ps i zeros here) (sym (refused ∙ ap is_ok code)))
-
--- So does the end of the packets.
-pub sending_done : (ps : List Packet) (old out : List ℕ) (i at : ℕ) → Sending ps old out i at → length ps ≤ i → Sent ps old out accepted at
-sending_done ps old out i at before end =
-    let none = drop_all i ps end in
-    sent ps old out accepted at before.filled (sym (append-nil (take at out)) ∙ rw none at before.words) (rw none at before.code)

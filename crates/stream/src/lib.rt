@@ -3,9 +3,9 @@
 #![tactic(auto)]
 
 ghost use Rattle.std.specs.Prelude.{◌≡◌, ◌-◌, ◌≤◌, ◌++◌, length, take, drop, OnOk};
-ghost use Rattle.packet.specs.Streams.{ended, stream, walk};
+ghost use Rattle.packet.specs.Streams.{ended, walk};
 ghost use Rattle.stream.specs.Rewriting.{rewrite_answer, rewritten};
-ghost use Rattle.stream.specs.Sending.{stream_answer, taken, written_all};
+ghost use Rattle.stream.specs.Sending.{taken, words_written, write_all_answer, written_all};
 ghost use Rattle.packet.specs.Writing.{laid_over, write_answer, written};
 
 use message::Refusal;
@@ -20,24 +20,20 @@ fn write_at(packet: Packet, out: &mut [u32], at: usize) -> Result<(), Refusal>
     packet.write(&mut out[at..])
 }
 
-/// Writes packets one after another to the front of a buffer, up to the first that is refused. It answers why it stopped
-/// (accepted: it took them all) and how many words it wrote; a walk over these words finds the packets that it took.
-pub fn write_all(packets: &[Packet], out: &mut [u32]) -> (Refusal, usize)
-    ensures answer { result.0 ≡ stream_answer packets.now (length out.old) }
-    ensures count { result.1 ≡ length (stream (taken packets.now (length out.old))) }
+/// Writes packets one after another to the front of a buffer, up to the first that is refused. It answers how many words it
+/// wrote, or why it stopped and at which place; a walk over the words before that place finds the packets that it took.
+pub fn write_all(packets: &[Packet], out: &mut [u32]) -> Result<usize, Fault>
+    ensures answer { result ≡ write_all_answer packets.now (length out.old) }
     ensures words { out.new ≡ written_all packets.now out.old }
-    ensures all { result.0 ≡ Ok tt → taken packets.now (length out.old) ≡ packets.now }
-    ensures back { walk (take result.1 out.new) ≡ ended (taken packets.now (length out.old)) }
+    ensures all { OnOk result (taken packets.now (length out.old) ≡ packets.now) }
+    ensures back { walk (take (words_written result) out.new) ≡ ended (taken packets.now (length out.old)) }
 {
     let mut at = 0;
     for packet in packets {
-        let code = write_at(*packet, out, at);
-        if !code.is_accepted() {
-            return (code, at);
-        }
+        write_at(*packet, out, at).map_err(|refusal| Fault { refusal, place: at })?;
         at += packet.size();
     }
-    (Ok(()), at)
+    Ok(at)
 }
 
 /// Walks words and writes the packets that it finds again, one after another, to the front of a buffer that is at least as

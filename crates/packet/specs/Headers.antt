@@ -1,0 +1,23 @@
+-- What headers say.
+use Rattle.std.specs.Prelude.{ℕ, Some, None, Ok, Err, Option, Result, ◌==◌, option_map}
+use Rattle.message.specs.declared.kinds.Kind.{Kind}
+use Rattle.message.specs.declared.refusals.Refusal.{Refusal}
+use Rattle.message.specs.declared.refusals.Refusal.TheVariants.{UnknownOpcode, WrongLength}
+use Rattle.message.specs.Checks.{given}
+use Rattle.message.specs.Kinds.{kind_of, words_of}
+use Rattle.packet.specs.declared.Packet.{Packet}
+use Rattle.packet.specs.declared.fields.Header.{Header}
+use Rattle.packet.specs.Layout.{opcode_in, length_in, source_in}
+
+-- The judgement of a header once its opcode is known: it is that of a kind, and the length is the kind's.
+abbrev pub header_as : Option Kind → ℕ → Result Header Refusal
+header_as None head = Err UnknownOpcode
+header_as (Some k) head = given (length_in head == words_of k) (Err WrongLength) (Ok (record { kind = k; source = source_in head }))
+
+-- The header that a word is, or what is wrong with it.
+abbrev pub header_in : ℕ → Result Header Refusal
+header_in head = header_as (kind_of (opcode_in head)) head
+
+-- The header of a packet, where its opcode is that of a kind.
+abbrev pub header_of : Packet → Option Header
+header_of p = option_map (λ k. record { kind = k; source = p.source }) (kind_of p.message.opcode)
