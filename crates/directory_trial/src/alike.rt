@@ -1,7 +1,7 @@
 // The same calls, random to look at, on a full map and on pointers over a full map.
 use directory::Directory;
 use full_map::FullMap;
-use message::Refusal;
+use message::code_of;
 use pointers::Pointers;
 use std::test::Fail;
 
@@ -16,14 +16,14 @@ fn answer<D: Directory>(d: &mut D, call: u64) -> u64 {
     let r = (call / 64 % 5) as usize;
     let t = (call / 512 % 66) as usize;
     match call % 64 {
-        0 => u64::from(d.clear(r).number()),
+        0 => u64::from(code_of(&d.clear(r))),
         1..=10 => u64::from(d.holds(r, t)),
         11..=20 => d.count(r) as u64,
         21..=30 => match d.next(r, t) {
             Some(u) => u as u64,
             None => 64,
         },
-        _ => u64::from(d.add(r, t).number()),
+        _ => u64::from(code_of(&d.add(r, t))),
     }
 }
 

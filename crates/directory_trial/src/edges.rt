@@ -9,7 +9,7 @@ use std::test::Fail;
 fn refused(records: usize, terminals: usize) -> bool {
     match FullMap::new(records, terminals) {
         Ok(_) => false,
-        Err(code) => code == Err(Refusal::Unfit),
+        Err(refusal) => refusal == Refusal::Unfit,
     }
 }
 

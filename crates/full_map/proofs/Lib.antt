@@ -1,3 +1,1 @@
-pub mod Digits
-pub mod Masks
-pub mod Steps
+pub mod Bits

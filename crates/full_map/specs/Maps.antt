@@ -1,6 +1,6 @@
 -- What a full map means, and which are made.
-use Rattle.std.specs.Prelude.{◌≡◌, ℕ, Bool, true, false, ◌&&◌, Result, MatchResult, Err}
-use Rattle.message.specs.Refusals.{Answer}
+use Rattle.std.specs.Prelude.{◌≡◌, ℕ, Bool, true, false, ◌&&◌, Result, MatchResult}
+use Rattle.message.specs.declared.refusals.Refusal.{Refusal}
 use Rattle.message.specs.declared.refusals.Refusal.TheVariants.{Unfit}
 use Rattle.directory.specs.Directories.{View, size_fits, empty}
 use Rattle.full_map.specs.Words.{of_words}
@@ -15,8 +15,8 @@ abbrev pub sizes_fit : ℕ → ℕ → Bool
 sizes_fit records terminals = size_fits records && size_fits terminals
 
 -- Where the sizes fit, an empty map of these sizes is made; else they are refused.
-abbrev pub Makes : ℕ → ℕ → Result FullMap Answer → Type 0
+abbrev pub Makes : ℕ → ℕ → Result FullMap Refusal → Type 0
 Makes records terminals made =
     MatchResult made
     (λ m. (sizes_fit records terminals ≡ true) × (map_view m ≡ empty records terminals 64))
-    (λ c. (sizes_fit records terminals ≡ false) × (c ≡ Err Unfit))
+    (λ refusal. (sizes_fit records terminals ≡ false) × (refusal ≡ Unfit))

@@ -1,4 +1,6 @@
 // The calls of a full map, by shifts and masks.
+ghost use Rattle.std.specs.Prelude.{◌≡◌, slice_index};
+ghost use Rattle.directory.specs.Directories.{size_fits};
 ghost use Rattle.full_map.specs.Maps.{map_view, Makes};
 ghost use Rattle.full_map.specs.Laws.{served};
 ghost use Rattle.std.proofs.Common.{arith};
@@ -7,12 +9,19 @@ use crate::FullMap;
 use directory::Directory;
 use message::Refusal;
 
+// Whether a size is from 1 to 64.
+fn fits(size: usize) -> bool
+    ensures answer { result ≡ size_fits size }
+{
+    (1..=64).contains(&size)
+}
+
 impl FullMap {
     /// A map without holders, or `Refusal::Unfit` where a size is not from 1 to 64.
     pub fn new(records: usize, terminals: usize) -> Result<FullMap, Refusal>
         ensures made { Makes records terminals result }
     {
-        if records < 1 || records > 64 || terminals < 1 || terminals > 64 {
+        if !fits(records) || !fits(terminals) {
             return Err(Refusal::Unfit);
         }
         Ok(FullMap {
@@ -20,6 +29,13 @@ impl FullMap {
             records,
             terminals,
         })
+    }
+
+    // The word of a record, which is 0 where the record is not served.
+    fn word(&self, r: usize) -> u64
+        ensures answer { result ≡ slice_index self.now.words r }
+    {
+        self.words.get(r).copied().unwrap_or(0)
     }
 }
 
@@ -44,7 +60,7 @@ impl Directory for FullMap {
         if t >= self.terminals {
             return Err(Refusal::NoSuchTerminal);
         }
-        self.words[r] = self.words[r] | 1u64 << t;
+        self.words[r] |= 1 << t;
         Ok(())
     }
 
@@ -57,34 +73,19 @@ impl Directory for FullMap {
     }
 
     fn holds(&self, r: usize, t: usize) -> bool {
-        if r >= self.records {
-            return false;
-        }
-        if t >= self.terminals {
-            return false;
-        }
-        self.words[r] >> t & 1 == 1
+        t < self.terminals && self.word(r) >> t & 1 == 1
     }
 
     fn count(&self, r: usize) -> usize {
-        if r >= self.records {
-            return 0;
-        }
-        self.words[r].count_ones() as usize
+        self.word(r).count_ones() as usize
     }
 
     fn next(&self, r: usize, t: usize) -> Option<usize> {
-        if r >= self.records {
-            return None;
-        }
         if t >= self.terminals {
             return None;
         }
-        let from_t = self.words[r] & (u64::MAX << t);
-        if from_t == 0 {
-            return None;
-        }
-        Some(from_t.trailing_zeros() as usize)
+        let from_t = self.word(r) & (u64::MAX << t);
+        (from_t != 0).then(|| from_t.trailing_zeros() as usize)
     }
 
     fn records(&self) -> usize {

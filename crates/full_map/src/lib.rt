@@ -2,7 +2,8 @@
 
 #![tactic(auto)]
 
-ghost use Rattle.std.specs.Prelude.{◌≡◌, ℕ, ◌^◌, ◌<◌, ◌≤◌, slice_index};
+ghost use Rattle.std.specs.Prelude.{◌≤◌};
+ghost use Rattle.full_map.specs.Words.{Narrow, Unused};
 
 mod calls;
 
@@ -14,6 +15,6 @@ pub struct FullMap {
     records: usize,
     terminals: usize,
     ghost sizes: { (1 ≤ records) × (records ≤ 64) × (1 ≤ terminals) × (terminals ≤ 64) },
-    ghost narrow: { (r : ℕ) → slice_index words r < 2 ^ terminals },
-    ghost unused: { (r : ℕ) → records ≤ r → slice_index words r ≡ 0 },
+    ghost narrow: { Narrow words terminals },
+    ghost unused: { Unused words records },
 }

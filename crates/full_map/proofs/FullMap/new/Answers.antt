@@ -1,26 +1,20 @@
-use Rattle.std.proofs.Common.{ℕ, ◌^◌, ◌<◌, sym, ap, ◌∙◌, subst, arith, pow_pos}
-use mathlib.Core.Path.{fun_ext}
+use Rattle.std.proofs.Common.{ℕ, zero, suc, ◌≡◌, eqb, slice_index, replicate, ap, ◌∙◌, arith, pow_pos, refl}
+use Rattle.std.proofs.Math.Path.{fun_ext}
 use Rattle.std.proofs.lemmas.Bool.Decides.{nat_tests}
+use Rattle.std.proofs.lemmas.Nat.Bits.{bit_at-zero}
 use Rattle.directory.specs.Directories.{empty}
 use Rattle.directory.specs.Changes.{with_holders}
 use Rattle.full_map.specs.Words.{bit}
-use Rattle.full_map.specs.Laws.{bit_none}
-use Rattle.full_map.proofs.Steps.{zeros}
 use Rattle.full_map.proofs.FullMap.new.Goals as goal
 
+-- each of some words of 0, and each past them, is 0
+zeros : (n r : ℕ) → slice_index (replicate n 0) r ≡ 0
+zeros zero r = refl
+zeros (suc n) zero = refl
+zeros (suc n) (suc r) = zeros n r
+
 pub invariant_of-result : goal.invariant_of-result
-invariant_of-result c =
-    record {
-      sizes = omega arith;
-      narrow = λ r. subst (λ (w : ℕ). w < 2 ^ c.args.terminals) (sym (zeros r)) (pow_pos c.args.terminals);
-      unused = λ r _. zeros r;
-    }
+invariant_of-result c = record { sizes = grind (arith, nat_tests); narrow = λ r. rw (zeros 64 r) (pow_pos c.args.terminals); unused = λ r _. zeros 64 r }
 
 pub returns : goal.returns
-returns c =
-    record {
-      made = (
-        grind (arith, nat_tests),
-        ap (with_holders (empty c.args.records c.args.terminals 64)) (fun_ext (λ r. fun_ext (λ t. ap (λ (w : ℕ). bit w t) (zeros r) ∙ bit_none t))),
-      );
-    }
+returns c = record { made = (grind (arith, nat_tests), ap (with_holders (empty c.args.records c.args.terminals 64)) (fun_ext (λ r. fun_ext (λ t. ap (λ w. bit w t) (zeros 64 r) ∙ ap (λ d. eqb d 1) (bit_at-zero t))))) }

@@ -1,29 +1,37 @@
-use Rattle.std.proofs.Common.{◌≡◌, ◌<◌, length, sym, ap, ◌∙◌, arith, Ok}
+use Rattle.std.proofs.Common.{◌≡◌, ℕ, ◌<◌, ◌≤◌, arith, List, slice_index, sym, ap, ◌∙◌, Ok, false}
+use Rattle.std.proofs.Math.Path.{fun_ext}
+use Rattle.std.proofs.lemmas.Bool.Decides.{nat_tests}
+use Rattle.std.proofs.lemmas.Grind.{common_steps}
+use Rattle.directory.specs.Sets.{tally}
 use Rattle.directory.specs.Directories.{View}
 use Rattle.directory.specs.Changes.{add_answer, with_holders}
+use Rattle.directory.proofs.Counting.{tally_lt}
 use Rattle.directory.proofs.Adding.{added_accepted}
 use Rattle.full_map.specs.Maps.{map_view}
-use Rattle.full_map.proofs.Steps.{set_narrow, set_unused, or_word, or_word_lt, map_accepts}
+use Rattle.full_map.specs.Words.{bit, of_words}
+use Rattle.full_map.proofs.Bits.{set_lt, bit_set}
 use Rattle.full_map.proofs.calls.FullMapDirectory.add.Goals as goal
+
+-- a full map has room for every terminal that it serves
+accepts : (ws : List ℕ) (rs ts r t : ℕ) → r < rs → t < ts → ts ≤ 64 → add_answer (of_words ws rs ts) r t ≡ Ok tt
+accepts ws rs ts r t h k l =
+    let room : bit (slice_index ws r) t ≡ false → tally (bit (slice_index ws r)) 64 < 64 = tally_lt _ t 64 (omega arith) in
+    grind (arith, nat_tests)
 
 pub returns : goal.returns
 returns c =
     let m = c.args.self.now in
-    let l : c.args.r < length m.words = omega arith in
+    let r = c.args.r in
+    let t = c.args.t in
     let v : View = map_view m in
-    let e : add_answer v c.args.r c.args.t ≡ Ok tt =
-    map_accepts m.words m.records m.terminals c.args.r c.args.t (omega arith) (omega arith) (omega arith) in
+    let e : add_answer v r t ≡ Ok tt = accepts m.words m.records m.terminals r t (omega arith) (omega arith) (omega arith) in
     record {
       answer = sym e;
-      after = ap (with_holders v) (or_word m.words c.args.r c.args.t l (omega arith)) ∙ sym (added_accepted v c.args.r c.args.t e);
+      after = ap (with_holders v) (fun_ext (λ q. fun_ext (λ u. let a = bit_set (slice_index m.words r) t u (omega arith) in grind (arith, nat_tests, common_steps)))) ∙ sym (added_accepted v r t e);
     }
 
 pub invariant_of-self : goal.invariant_of-self
 invariant_of-self c =
     let m = c.args.self.now in
-    let l : c.args.r < length m.words = omega arith in
-    record {
-      sizes = m.sizes;
-      narrow = set_narrow m.words m.terminals c.args.r _ m.narrow l (or_word_lt _ m.terminals c.args.t (m.narrow c.args.r) (omega arith) (omega arith));
-      unused = set_unused m.words m.records c.args.r _ m.unused (omega arith);
-    }
+    let small = set_lt (slice_index m.words c.args.r) m.terminals c.args.t (m.narrow c.args.r) (omega arith) (omega arith) in
+    record { sizes = m.sizes; narrow = λ q. grind (arith, common_steps, m.narrow q); unused = λ q l. grind (arith, common_steps) }

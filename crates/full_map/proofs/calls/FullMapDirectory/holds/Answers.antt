@@ -1,17 +1,10 @@
-use Rattle.std.proofs.Common.{get_or, sym, arith}
-use Rattle.full_map.proofs.Digits.{bit_test}
-use Rattle.full_map.specs.Laws.{unserved_record, unserved_terminal}
+use Rattle.std.proofs.Common.{arith}
+use Rattle.std.proofs.lemmas.Bool.Decides.{nat_tests}
+use Rattle.full_map.specs.Laws.{unserved_terminal}
 use Rattle.full_map.proofs.calls.FullMapDirectory.holds.Goals as goal
 
-pub returns-then-r-self : goal.returns-then-r-self
-returns-then-r-self c =
+pub returns-else-t-self : goal.returns-else-t-self
+returns-else-t-self c =
     let m = c.args.self.now in
-    record { answer = sym (unserved_record m.words m.records c.args.r c.args.t m.unused (omega arith)) }
-
-pub returns-then-t-self : goal.returns-then-t-self
-returns-then-t-self c =
-    let m = c.args.self.now in
-    record { answer = sym (unserved_terminal m.words m.terminals c.args.r c.args.t m.narrow (omega arith)) }
-
-pub returns : goal.returns
-returns c = let m = c.args.self.now in record { answer = bit_test (get_or m.words c.args.r 0) c.args.t }
+    let no = unserved_terminal m.words m.terminals c.args.r c.args.t m.narrow (omega arith) in
+    grind (arith, nat_tests)
