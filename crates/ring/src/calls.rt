@@ -2,8 +2,7 @@
 ghost use Rattle.std.specs.Prelude.{◌≡◌, ◌<◌, [], ◌∷◌, ◌++◌, length};
 ghost use Rattle.std.specs.List.{slice_get};
 ghost use Rattle.ring.specs.Calls.{after_discard, after_put, discard_answer, put_answer};
-ghost use Rattle.ring.specs.Rings.{contents};
-ghost use Rattle.ring.specs.Waiting.{waiting};
+ghost use Rattle.ring.specs.Rings.{contents, contents_at};
 
 use crate::spans::look;
 use crate::{Ring, Span};
@@ -22,7 +21,7 @@ impl<'a, T: Copy> Ring<'a, T> {
 
     /// The ring that lies at a span of these slots, as `Ring::span` told it.
     pub fn resume(slots: &'a mut [T], span: Span) -> Ring<'a, T>
-        ensures { contents result ≡ record { items = waiting slots.old span; room = length slots.old; lender = slots.entry.ghost_name } }
+        ensures { contents result ≡ contents_at slots.entry span }
     {
         let span = span.within(slots.len());
         Ring { slots, span }
