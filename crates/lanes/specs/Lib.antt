@@ -1,3 +1,3 @@
 pub mod Parts
 pub mod Calls
-pub mod Standing
+pub mod Contents

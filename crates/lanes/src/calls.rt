@@ -1,57 +1,69 @@
 // What can be asked of lanes side by side: put, look, discard.
-ghost use Rattle.std.specs.Prelude.{◌≡◌, ℕ, ◌*◌, ◌≤◌, [], length};
-ghost use Rattle.ring.specs.Calls.{discard_answer, discard_list, put_answer, put_list};
+ghost use Rattle.std.specs.Prelude.{◌≡◌, ◌*◌, ◌≤◌, [], IfOk, length};
+ghost use Rattle.ring.specs.Calls as ring;
+ghost use Rattle.ring.specs.Rings.{contents_at};
 ghost use Rattle.ring.specs.Waiting.{waiting};
-ghost use Rattle.lanes.specs.Calls.{changed, checked, counted, looked};
-ghost use Rattle.lanes.specs.Standing.{Standing, held};
+ghost use Rattle.lanes.specs.Calls.{after_discard, after_put, counted, discard_answer, looked, put_answer};
+ghost use Rattle.lanes.specs.Contents.{contents};
+ghost use Rattle.lanes.specs.Parts.{part_answer};
 
 use crate::Lanes;
 use message::Refusal;
 use ring::{Ring, Span};
+use std::ops::Range;
 
-/// Puts elements into the ring at a span of slots, and answers the code and the span then.
-fn put_in<T: Copy>(part: &mut [T], span: Span, xs: &[T]) -> (Refusal, Span)
-    ensures answer { result.0 ≡ put_answer (length part.old) (waiting part.old span.start span.count) xs.now }
-    ensures held { waiting part.new result.1.start result.1.count ≡ put_list (length part.old) (waiting part.old span.start span.count) xs.now }
+/// Elements join the end of the ring at a span of slots, if there is room for all of them.
+fn put_in<T: Copy>(part: &mut [T], span: &mut Span, xs: &[T]) -> Result<(), Refusal>
+    ensures answer { result ≡ ring.put_answer (contents_at part.entry span.old) xs.now }
+    ensures items { waiting part.new span.new ≡ (ring.after_put (contents_at part.entry span.old) xs.now).items }
 {
-    let mut ring = Ring::resume(part, span);
-    let code = ring.put_all(xs);
-    (code, ring.span())
+    let mut ring = Ring::resume(part, *span);
+    let answer = ring.put_all(xs);
+    *span = ring.span();
+    answer
 }
 
-/// Discards the oldest elements of the ring at a span of slots, and answers the code and the span then.
-fn discard_in<T: Copy>(part: &mut [T], span: Span, k: usize) -> (Refusal, Span)
-    ensures answer { result.0 ≡ discard_answer k (waiting part.old span.start span.count) }
-    ensures held { waiting part.new result.1.start result.1.count ≡ discard_list k (waiting part.old span.start span.count) }
+/// The k oldest elements of the ring at a span of slots go, if so many wait.
+fn discard_in<T: Copy>(part: &mut [T], span: &mut Span, k: usize) -> Result<(), Refusal>
+    ensures answer { result ≡ ring.discard_answer k (contents_at part.entry span.old) }
+    ensures items { waiting part.new span.new ≡ (ring.after_discard k (contents_at part.entry span.old)).items }
 {
-    let mut ring = Ring::resume(part, span);
-    let code = ring.discard_many(k);
-    (code, ring.span())
+    let mut ring = Ring::resume(part, *span);
+    let answer = ring.discard_many(k);
+    *span = ring.span();
+    answer
 }
 
 impl<'a, T: Copy> Lanes<'a, T> {
     /// So many lanes of so many slots each, with nothing in them.
     pub fn new(slots: &'a mut [T], count: usize, size: usize) -> Lanes<'a, T>
         requires sizes { (count ≤ 64) × (size ≤ 1020) × (count * size ≤ length slots.old) }
-        ensures standing { Standing result }
-        ensures count { result.count ≡ count }
-        ensures size { result.size ≡ size }
-        ensures empty { (l : ℕ) → held result l ≡ [] }
-        ensures lender { result.slots.ghost_name ≡ slots.entry.ghost_name }
+        ensures { contents result ≡ record { count = count; size = size; held = λ l. []; lender = slots.entry.ghost_name } }
     {
         Lanes {
             slots,
-            spans: [Span { start: 0, count: 0 }; 64],
+            spans: [Span::default(); 64],
             count,
             size,
         }
     }
 
+    /// The numbers of a lane's slots, or that there is no such lane.
+    fn part(&self, lane: usize) -> Result<Range<usize>, Refusal>
+        ensures value { result ≡ part_answer self.now.count self.now.size lane }
+        ensures inside { IfOk result (λ part. part.end ≤ length self.now.slots.now) }
+    {
+        if lane >= self.count {
+            return Err(Refusal::NoSuchTerminal);
+        }
+        let from = lane * self.size;
+        Ok(from..from + self.size)
+    }
+
     /// How many elements wait in a lane: 0 in a lane that is not there.
     pub fn waiting(&self, lane: usize) -> usize
-        requires standing { Standing self.now }
-        ensures value { result ≡ counted self.now.count (held self.now) lane }
-        ensures bound { result ≤ self.now.size }
+        ensures value { result ≡ counted (contents self.now) lane }
+        ensures bound { result ≤ (contents self.now).size }
     {
         if lane >= self.count {
             return 0;
@@ -61,58 +73,29 @@ impl<'a, T: Copy> Lanes<'a, T> {
 
     /// The k-th element that waits in a lane, the oldest for 0, or none.
     pub fn look(&self, lane: usize, k: usize) -> Option<T>
-        requires standing { Standing self.now }
-        ensures { result ≡ looked self.now.count (held self.now) lane k }
+        ensures { result ≡ looked (contents self.now) lane k }
     {
-        if lane >= self.count {
-            return None;
-        }
-        let from = lane * self.size;
-        let to = from + self.size;
-        ring::look(&self.slots[from..to], self.spans[lane], k)
+        let part = self.part(lane).ok()?;
+        ring::look(&self.slots[part], self.spans[lane], k)
     }
 
     /// Elements join the end of a lane in their order, if there is room for all of them.
     pub fn put_all(&mut self, lane: usize, xs: &[T]) -> Result<(), Refusal>
-        requires standing { Standing self.old }
-        ensures standing { Standing self.new }
-        ensures answer { result ≡ checked self.old.count lane (put_answer self.old.size (held self.old lane) xs.now) }
-        ensures held { held self.new ≡ changed self.old.count (held self.old) lane (put_list self.old.size (held self.old lane) xs.now) }
-        ensures count { self.new.count ≡ self.old.count }
-        ensures size { self.new.size ≡ self.old.size }
-        ensures lender { self.new.slots.ghost_name ≡ self.old.slots.ghost_name }
+        ensures answer { result ≡ put_answer (contents self.old) lane xs.now }
+        ensures after { contents self.new ≡ after_put (contents self.old) lane xs.now }
     {
-        if lane >= self.count {
-            return Err(Refusal::NoSuchTerminal);
-        }
-        let from = lane * self.size;
-        let to = from + self.size;
-        let span = self.spans[lane];
-        let Lanes { slots, .. } = self;
-        let (code, longer) = put_in(&mut slots[from..to], span, xs);
-        self.spans[lane] = longer;
-        code
+        let part = self.part(lane)?;
+        let Lanes { slots, spans, .. } = self;
+        put_in(&mut slots[part], &mut spans[lane], xs)
     }
 
     /// The k oldest elements of a lane go, if so many wait.
     pub fn discard_many(&mut self, lane: usize, k: usize) -> Result<(), Refusal>
-        requires standing { Standing self.old }
-        ensures standing { Standing self.new }
-        ensures answer { result ≡ checked self.old.count lane (discard_answer k (held self.old lane)) }
-        ensures held { held self.new ≡ changed self.old.count (held self.old) lane (discard_list k (held self.old lane)) }
-        ensures count { self.new.count ≡ self.old.count }
-        ensures size { self.new.size ≡ self.old.size }
-        ensures lender { self.new.slots.ghost_name ≡ self.old.slots.ghost_name }
+        ensures answer { result ≡ discard_answer k (contents self.old) lane }
+        ensures after { contents self.new ≡ after_discard k (contents self.old) lane }
     {
-        if lane >= self.count {
-            return Err(Refusal::NoSuchTerminal);
-        }
-        let from = lane * self.size;
-        let to = from + self.size;
-        let span = self.spans[lane];
-        let Lanes { slots, .. } = self;
-        let (code, shorter) = discard_in(&mut slots[from..to], span, k);
-        self.spans[lane] = shorter;
-        code
+        let part = self.part(lane)?;
+        let Lanes { slots, spans, .. } = self;
+        discard_in(&mut slots[part], &mut spans[lane], k)
     }
 }

@@ -2,10 +2,11 @@
 
 #![tactic(auto)]
 
-ghost use Rattle.std.specs.Prelude.{◌≡◌, ◌≤◌};
+ghost use Rattle.std.specs.Prelude.{◌≡◌, ◌*◌, ◌≤◌};
+ghost use Rattle.network.specs.Sizes.{check_answer};
 ghost use Rattle.network.specs.Traffic.{Traffic, after_drop, after_put, drop_answer, number_waiting, oldest, put_answer};
 
-use message::{Refusal, Message};
+use message::{Message, Refusal};
 
 /// A network has lanes, in each of which messages wait in the order in which they were put, and one depth for all of them.
 /// It means its traffic: how many lanes there are, their depth, and for each lane the list of what waits, oldest first.
@@ -42,4 +43,49 @@ pub trait Network {
     fn drop_head(&mut self, lane: usize) -> Result<(), Refusal>
         ensures answer { result ≡ drop_answer (traffic self.old) lane }
         ensures after { traffic self.new ≡ after_drop (traffic self.old) lane };
+
+    /// What a put of a message into a lane would answer.
+    #[tactic(auto, unfolding(crate::specs::Traffic::put_answer))]
+    fn check_put(&self, lane: usize, message: Message) -> Result<(), Refusal>
+        ensures { result ≡ put_answer (traffic self.now) lane message }
+    {
+        if lane >= self.lanes() {
+            return Err(Refusal::NoSuchTerminal);
+        }
+        if !message.is_well_formed() {
+            return Err(Refusal::Malformed);
+        }
+        if self.waiting(lane) >= self.depth() {
+            return Err(Refusal::Full);
+        }
+        Ok(())
+    }
+
+    /// What a drop of the oldest message of a lane would answer.
+    #[tactic(auto, unfolding(crate::specs::Traffic::drop_answer))]
+    fn check_drop(&self, lane: usize) -> Result<(), Refusal>
+        ensures { result ≡ drop_answer (traffic self.now) lane }
+    {
+        if lane >= self.lanes() {
+            return Err(Refusal::NoSuchTerminal);
+        }
+        if self.waiting(lane) == 0 {
+            return Err(Refusal::Empty);
+        }
+        Ok(())
+    }
+}
+
+/// Whether a network can be made in so much room, with so many lanes of a depth, where each message that may wait takes so
+/// much of it.
+pub fn check(room: usize, lanes: usize, depth: usize, each: usize) -> Result<(), Refusal>
+    ensures { result ≡ check_answer lanes depth (each * depth) room }
+{
+    if !(1..=64).contains(&lanes) || !(1..=255).contains(&depth) {
+        return Err(Refusal::Unfit);
+    }
+    match (lanes * depth).checked_mul(each) {
+        Some(needed) if needed <= room => Ok(()),
+        _ => Err(Refusal::Unfit),
+    }
 }

@@ -11,7 +11,7 @@ pub use spans::look;
 
 /// Where the elements of a ring lie among its slots: so many wait, the oldest at `start`, the others in the slots after it,
 /// and past the last slot on from the first.
-#[derive(Clone, Copy)]
+#[derive(Clone, Copy, Default)]
 pub struct Span {
     pub start: usize,
     pub count: usize,
@@ -21,7 +21,6 @@ pub struct Span {
 #[derive(Drop)]
 pub struct Ring<'a, T> {
     slots: &'a mut [T],
-    start: usize,
-    count: usize,
-    ghost within: { (start ≤ length slots.now) × (count ≤ length slots.now) },
+    span: Span,
+    ghost within: { (span.start ≤ length slots.now) × (span.count ≤ length slots.now) },
 }

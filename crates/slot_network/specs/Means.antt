@@ -1,5 +1,5 @@
 -- What a slot network means: a message waits in a slot as it is.
-use Rattle.lanes.specs.Standing.{held}
+use Rattle.lanes.specs.Contents.{held}
 use Rattle.network.specs.Traffic.{Traffic}
 use Rattle.slot_network.specs.declared.SlotNetwork.{SlotNetwork}
 

@@ -1,11 +1,11 @@
 // How a slot network is made, and its calls.
-ghost use Rattle.std.specs.Prelude.{◌≡◌, length};
+ghost use Rattle.std.specs.Prelude.{◌≡◌, IfOk, MatchResult, length};
 ghost use Rattle.network.specs.Sizes.{check_answer, no_traffic};
 ghost use Rattle.slot_network.specs.Means.{traffic_of};
 
 use crate::SlotNetwork;
 use lanes::Lanes;
-use message::{Refusal, Message};
+use message::{Message, Refusal};
 use network::Network;
 
 impl<'a> SlotNetwork<'a> {
@@ -14,20 +14,10 @@ impl<'a> SlotNetwork<'a> {
     pub fn check(slots: usize, lanes: usize, depth: usize) -> Result<(), Refusal>
         ensures { result ≡ check_answer lanes depth depth slots }
     {
-        if lanes < 1 || lanes > 64 {
-            return Err(Refusal::Unfit);
-        }
-        if depth < 1 || depth > 255 {
-            return Err(Refusal::Unfit);
-        }
-        if slots < lanes * depth {
-            return Err(Refusal::Unfit);
-        }
-        Ok(())
+        network::check(slots, lanes, depth, 1)
     }
 
-    /// A network in which nothing waits. It requires that the check was passed, and so does not refuse: an answer that holds
-    /// either a refusal or a network over lent slots is not within the language's reach.
+    /// A network in which nothing waits. It requires that the check was passed, and so does not refuse.
     pub fn new(slots: &'a mut [Message], lanes: usize, depth: usize) -> SlotNetwork<'a>
         requires checked { check_answer lanes depth depth (length slots.old) ≡ Ok tt }
         ensures traffic { traffic_of result ≡ no_traffic lanes depth }
@@ -36,6 +26,20 @@ impl<'a> SlotNetwork<'a> {
         SlotNetwork {
             lanes: Lanes::new(slots, lanes, depth),
         }
+    }
+
+    /// A network in which nothing waits, or the refusal of a check that was not passed.
+    pub fn over(
+        slots: &'a mut [Message],
+        lanes: usize,
+        depth: usize,
+    ) -> Result<SlotNetwork<'a>, Refusal>
+        ensures answer { MatchResult result (λ net. check_answer lanes depth depth (length slots.old) ≡ Ok tt) (λ refusal. check_answer lanes depth depth (length slots.old) ≡ Err refusal) }
+        ensures traffic { IfOk result (λ net. traffic_of net ≡ no_traffic lanes depth) }
+        ensures lender { IfOk result (λ net. net.lanes.slots.ghost_name ≡ slots.entry.ghost_name) }
+    {
+        SlotNetwork::check(slots.len(), lanes, depth)?;
+        Ok(SlotNetwork::new(slots, lanes, depth))
     }
 }
 
@@ -58,19 +62,15 @@ impl Network for SlotNetwork<'_> {
         self.lanes.look(lane, 0)
     }
 
+    #[tactic(auto, unfolding(network::specs::Traffic::put_answer, network::specs::Traffic::put_waiting))]
     fn put(&mut self, lane: usize, message: Message) -> Result<(), Refusal> {
-        if lane >= self.lanes() {
-            return Err(Refusal::NoSuchTerminal);
-        }
-        if !message.is_well_formed() {
-            return Err(Refusal::Malformed);
-        }
-        let SlotNetwork { lanes, .. } = self;
-        lanes.put_all(lane, &[message])
+        self.check_put(lane, message)?;
+        self.lanes.put_all(lane, &[message])
     }
 
+    #[tactic(auto, using(crate::proofs::Later::later_is), unfolding(network::specs::Traffic::drop_answer, network::specs::Traffic::drop_waiting))]
     fn drop_head(&mut self, lane: usize) -> Result<(), Refusal> {
-        let SlotNetwork { lanes, .. } = self;
-        lanes.discard_many(lane, 1)
+        self.check_drop(lane)?;
+        self.lanes.discard_many(lane, 1)
     }
 }

@@ -3,7 +3,6 @@
 #![tactic(auto)]
 
 ghost use Rattle.std.specs.Prelude.{◌≤◌};
-ghost use Rattle.lanes.specs.Standing.{Standing};
 
 use lanes::Lanes;
 use message::Message;
@@ -16,5 +15,4 @@ mod calls;
 pub struct SlotNetwork<'a> {
     lanes: Lanes<'a, Message>,
     ghost sizes: { (1 ≤ lanes.count) × (lanes.count ≤ 64) × (1 ≤ lanes.size) × (lanes.size ≤ 255) },
-    ghost standing: { Standing lanes },
 }

@@ -1,12 +1,9 @@
-use Rattle.std.proofs.Common.{◌≡◌, ◌+◌, ◌-◌, ◌≤◌, ◌++◌, length, take}
-use Rattle.ring.specs.Rings.{items, room}
+use Rattle.std.proofs.Common.{◌≡◌, ◌+◌, ◌≤◌, ◌++◌, length, take}
+use Rattle.ring.specs.Rings.{contents}
 use Rattle.ring.proofs.Ring.put_all.Given as goal
 
-abbrev pub invariant-loop-i : goal.invariant-loop-i
-invariant-loop-i g l =
-    (l.i ≤ length l.xs) × (items l.self ≡ items l.initial.self ++ take l.i l.xs)
-    × (room l.self ≡ room l.initial.self) × (l.self.slots.ghost_name ≡ l.initial.self.slots.ghost_name)
-    × (length (items l.initial.self) + length l.xs ≤ room l.initial.self)
-
-abbrev pub decreases-loop-i : goal.decreases-loop-i
-decreases-loop-i g l = length l.xs - l.i
+-- So many joined, and there is room for all of them.
+abbrev pub invariant-loop-x : goal.invariant-loop-x
+invariant-loop-x g l =
+    (contents l.self ≡ record (contents l.initial.self) { items = (contents l.initial.self).items ++ take l.x-index l.xs })
+    × (length (contents l.initial.self).items + length l.xs ≤ (contents l.initial.self).room)
