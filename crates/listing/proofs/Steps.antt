@@ -1,5 +1,5 @@
 -- One line of a listing after another.
-use Rattle.std.proofs.Common.{◌≡◌, ℕ, suc, ◌+◌, ◌-◌, ◌<◌, ◌≤◌, List, [], ◌∷◌, ◌++◌, length, get_or, Some, None, Ok, Err, Option, refl, ap, ◌∙◌, arith}
+use Rattle.std.proofs.Common.{◌≡◌, ℕ, suc, ◌+◌, ◌-◌, ◌<◌, ◌≤◌, List, [], ◌∷◌, length, get_or, Some, None, Ok, Err, Option, refl, arith}
 use Rattle.message.specs.declared.kinds.Kind.{Kind}
 use Rattle.message.specs.declared.kinds.Kind.TheVariants.{ReadRequest, WriteRequest, Replacement, Update, Acknowledgement, ReadData, WriteData, Invalidate, Busy}
 use Rattle.message.specs.Kinds.{kind_of, opcode_of}
@@ -7,13 +7,13 @@ use Rattle.packet.specs.declared.Fault.{Fault}
 use Rattle.packet.specs.declared.Packet.{Packet}
 use Rattle.packet.specs.Layout.{packet_words}
 use Rattle.packet.specs.Reading.{packet_at}
-use Rattle.packet.specs.Streams.{Walk, walk_from}
+use Rattle.packet.specs.Streams.{walk_from}
 use Rattle.packet.proofs.Walks.{walk_on, walk_stop}
 use Rattle.listing.specs.declared.Line.TheVariants as line
 use Rattle.listing.specs.declared.walking.Stage.{Stage}
 use Rattle.listing.specs.declared.walking.Stage.TheVariants.{Counting, Ended}
 use Rattle.listing.specs.Listings.{lines_at}
-use Rattle.listing.specs.Lines.{count_lines, counted, counted_all, kinds_from, last_lines, line_as, packet_lines, walk_lines}
+use Rattle.listing.specs.Lines.{count_lines, counted, kinds_from, walk_lines}
 
 -- The stage that counts from a kind on, if there is one.
 abbrev pub counting_from : Option Kind → Stage
@@ -38,7 +38,7 @@ pub fault_line : (words counts : List ℕ) (at packets : ℕ) (f : Fault) → pa
     → walk_lines (walk_from (length words - packets) words at) at packets counts (length words) ≡ line.Fault f ∷ []
 fault_line words counts at packets f few here is =
     let more : length words - packets ≡ suc (length words - (packets + 1)) = omega arith in
-    ap (λ (w : Walk). walk_lines w at packets counts (length words)) (ap (λ (n : ℕ). walk_from n words at) more ∙ walk_stop (length words - (packets + 1)) words at f here is)
+    rw (more, walk_stop (length words - (packets + 1)) words at f here is)
 
 -- A packet comes before the lines of those after it.
 pub packet_line : (words counts : List ℕ) (at packets : ℕ) (p : Packet) (k : Kind) → packets ≤ at → at < length words → packet_at words at ≡ Ok p
@@ -50,6 +50,4 @@ packet_line words counts at packets p k few here is kind =
     let more : length words - packets ≡ suc (length words - (packets + 1)) = omega arith in
     let rest = walk_from (length words - (packets + 1)) words (at + length (packet_words p)) in
     let sum : packets + suc (length rest.packets) ≡ packets + 1 + length rest.packets = omega arith in
-    ap (λ (w : Walk). walk_lines w at packets counts (length words)) (ap (λ (n : ℕ). walk_from n words at) more ∙ walk_on (length words - (packets + 1)) words at p here is)
-    ∙ ap (λ (o : Option Kind). (line_as o at p ++ packet_lines (at + length (packet_words p)) rest.packets) ++ last_lines rest.fault (packets + suc (length rest.packets)) (length words) (counted_all (counted counts p) rest.packets)) kind
-    ∙ ap (λ (n : ℕ). line.Packet at p.source k p.message.«record» p.message.value ∷ (packet_lines (at + length (packet_words p)) rest.packets ++ last_lines rest.fault n (length words) (counted_all (counted counts p) rest.packets))) sum
+    rw (more, walk_on (length words - (packets + 1)) words at p here is, sum, kind)

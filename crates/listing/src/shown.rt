@@ -17,14 +17,11 @@ impl fmt::Display for Line {
                 record,
                 value,
             } => {
+                write!(f, "{place} from {source} {kind} record {record}")?;
                 if kind.carries_value() {
-                    write!(
-                        f,
-                        "{place} from {source} {kind} record {record} value {value}"
-                    )
-                } else {
-                    write!(f, "{place} from {source} {kind} record {record}")
+                    write!(f, " value {value}")?;
                 }
+                Ok(())
             }
             Line::Fault(fault) => write!(f, "fault {} {}", fault.place, u8::from(fault.refusal)),
             Line::Totals { packets, words } => write!(f, "{packets} packets, {words} words"),
