@@ -8,8 +8,7 @@ use std::io::{BufWriter, Read, Write};
 
 // Prints the listing of words, and whether they came out the same when they were written again.
 fn list(out: &mut impl Write, words: &[u32], again: &mut [u32]) -> anyhow::Result<()> {
-    let mut listing = Listing::new(words);
-    while let Some(line) = listing.next() {
+    for line in Listing::new(words) {
         writeln!(out, "{line}")?;
     }
     if let Ok(rewritten) = compare_rewritten(words, again) {
@@ -26,10 +25,10 @@ fn capture(rt: &HostRuntime) -> anyhow::Result<()> {
     let mut words = vec![in heap; 0u32; text.len()]?;
     let mut again = vec![in heap; 0u32; text.len()]?;
     let mut out = BufWriter::new(heap, rt.stdout())?;
-    match read_words(text.as_slice(), words.as_mut_slice()) {
+    match read_words(&text, &mut words) {
         Ok(count) => {
             words.truncate(count);
-            list(&mut out, words.as_slice(), again.as_mut_slice())?;
+            list(&mut out, &words, &mut again)?;
         }
         Err(fault) => writeln!(out, "{fault}")?,
     }

@@ -1,6 +1,6 @@
 // Listings.
 use listing::{Line, Listing, Rewritten, compare_rewritten};
-use message::{Refusal, Kind};
+use message::{Kind, Refusal};
 use packet::Fault;
 use std::test::Fail;
 
@@ -21,7 +21,7 @@ fn a_fault_ends_the_listing(rt: HostRuntime) {
         })
     );
     let fault = Fault {
-        code: Err(Refusal::UnknownRecord),
+        refusal: Refusal::UnknownRecord,
         place: 3,
     };
     assert_eq!(rt; listing.next(), Some(Line::Fault(fault)));
@@ -32,7 +32,7 @@ fn a_fault_ends_the_listing(rt: HostRuntime) {
 
 #[test]
 fn totals_and_counts_come_last(rt: HostRuntime) -> Result<(), Fail> {
-    let mut listing = Listing::new(&WORDS[0..2]);
+    let mut listing = Listing::new(&WORDS[..2]);
     assert!(rt; listing.next().is_some());
     assert_eq!(rt;
         listing.next(),
@@ -49,7 +49,7 @@ fn totals_and_counts_come_last(rt: HostRuntime) -> Result<(), Fail> {
     assert_eq!(rt; listing.next(), None);
     let mut again = [0; 2];
     assert_eq!(rt;
-        compare_rewritten(&WORDS[0..2], &mut again),
+        compare_rewritten(&WORDS[..2], &mut again),
         Ok(Rewritten::Same)
     );
     Ok(())

@@ -50,12 +50,3 @@ walk_lines w at packets counts words =
 -- The listing of words.
 abbrev pub listing : List ℕ → List Line
 listing words = walk_lines (walk words) 0 0 (replicate 9 0) (length words)
-
--- The first of some lines, and the others.
-abbrev pub first : List Line → Option Line
-first [] = None
-first (l ∷ ls) = Some l
-
-abbrev pub rest : List Line → List Line
-rest [] = []
-rest (l ∷ ls) = ls

@@ -1,17 +1,11 @@
 -- The lines that a listing has yet to give.
-use Rattle.std.specs.Prelude.{ℕ, ◌-◌, List, [], length, Some, None, Option}
-use Rattle.message.specs.declared.kinds.Kind.{Kind}
+use Rattle.std.specs.Prelude.{ℕ, ◌-◌, List, [], length}
 use Rattle.packet.specs.Streams.{walk_from}
 use Rattle.listing.specs.declared.Line.{Line}
 use Rattle.listing.specs.declared.walking.Listing.{Listing}
 use Rattle.listing.specs.declared.walking.Stage.{Stage}
 use Rattle.listing.specs.declared.walking.Stage.TheVariants.{Walking, Counting, Ended}
 use Rattle.listing.specs.Lines.{count_lines, kinds_from, walk_lines}
-
--- The stage that counts from a kind on, if there is one.
-abbrev pub counting_from : Option Kind → Stage
-counting_from (Some k) = Counting k
-counting_from None = Ended
 
 -- By its stage: those of the rest of the walk, or the counts from a kind on, or none.
 abbrev pub lines_at : Stage → List ℕ → ℕ → ℕ → List ℕ → List Line
@@ -20,4 +14,4 @@ lines_at (Counting k) words at packets counts = count_lines (kinds_from k) count
 lines_at Ended words at packets counts = []
 
 abbrev pub lines_left : Listing → List Line
-lines_left l = lines_at l.stage l.words.now l.at l.packets l.counts
+lines_left l = lines_at l.stage l.reader.words.now l.reader.at l.packets l.counts.0

@@ -31,8 +31,7 @@ pub fn compare_rewritten(words: &[u32], again: &mut [u32]) -> Result<Rewritten, 
     ensures buffer { again.new ≡ rewritten words.now again.old }
 {
     stream::rewrite(words, again)?;
-    let (front, _) = again.split_at(words.len());
-    if front == words {
+    if again.starts_with(words) {
         Ok(Rewritten::Same)
     } else {
         Ok(Rewritten::Different)

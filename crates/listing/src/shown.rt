@@ -17,26 +17,15 @@ impl fmt::Display for Line {
                 record,
                 value,
             } => {
-                let name = kind.mnemonic();
+                write!(f, "{place} from {source} {kind} record {record}")?;
                 if kind.carries_value() {
-                    write!(
-                        f,
-                        "{place} from {source} {name} record {record} value {value}"
-                    )
-                } else {
-                    write!(f, "{place} from {source} {name} record {record}")
+                    write!(f, " value {value}")?;
                 }
+                Ok(())
             }
-            Line::Fault(fault) => {
-                let place = fault.place;
-                let number = fault.code.number();
-                write!(f, "fault {place} {number}")
-            }
+            Line::Fault(fault) => write!(f, "fault {} {}", fault.place, u8::from(fault.refusal)),
             Line::Totals { packets, words } => write!(f, "{packets} packets, {words} words"),
-            Line::Count { kind, packets } => {
-                let name = kind.mnemonic();
-                write!(f, "{packets} {name}")
-            }
+            Line::Count { kind, packets } => write!(f, "{packets} {kind}"),
         }
     }
 }

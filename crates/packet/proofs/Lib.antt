@@ -1,4 +1,3 @@
 pub mod Accepts
 pub mod ReadBack
-pub mod WrittenBack
 pub mod Walks

@@ -79,6 +79,8 @@ pub fn read(words: &[u32], at: usize) -> Result<Found<'_>, Fault>
 pub struct Reader<'a> {
     words: &'a [u32],
     at: usize,
+    ghost within: { at ≤ length words.now },
+    ghost room: { length words.now < 2 ^ 64 },
 }
 
 impl<'a> Reader<'a> {

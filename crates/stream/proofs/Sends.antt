@@ -43,32 +43,19 @@ pub found_back : (ps : List Packet) (room : ℕ) (front : List ℕ) → front �
 found_back ps room front is = rw is (streams_read_back (taken ps room) (taken_sendable ps room))
 
 -- One packet more that is accepted.
-taken_on : (p : Packet) (ps : List Packet) (room : ℕ) → is_ok (write_answer p room) ≡ true
-    → (stream (taken (p ∷ ps) room) ≡ packet_words p ++ stream (taken ps (room - length (packet_words p)))) × (stream_answer (p ∷ ps) room ≡ stream_answer ps (room - length (packet_words p)))
-taken_on p ps room took = (rw took, rw took)
-
 went_on : (ps : List Packet) (old out : List ℕ) (i at : ℕ) (p : Packet) → Sending ps old out i at → drop i ps ≡ p ∷ drop (i + 1) ps
     → is_ok (write_answer p (length out - at)) ≡ true → Sending ps old (take at out ++ written p (drop at out)) (i + 1) (at + length (packet_words p))
 went_on ps old out i at p before next took =
     let size = length (packet_words p) in
-    let room = length old - at in
-    let left : length (drop at out) ≡ room = length-drop at out ∙ ap (λ (n : ℕ). n - at) before.filled.long in
-    let same : is_ok (write_answer p room) ≡ true = rw (← before.filled.long) took in
-    let put : laid_over (packet_words p) (drop at out) ≡ written p (drop at out) = rw (left, same) in
-    let step = filled_on old out (packet_words p) at before.filled (accepted_room p room (search rules)) in
-    let more = taken_on p (drop (i + 1) ps) room same in
-    let rest : length old - (at + size) ≡ room - size = omega arith in
-    let tail : stream (taken (drop i ps) room) ≡ packet_words p ++ stream (taken (drop (i + 1) ps) (length old - (at + size))) =
-    ap (λ (qs : List Packet). stream (taken qs room)) next ∙ more.0 ∙ ap (λ (n : ℕ). packet_words p ++ stream (taken (drop (i + 1) ps) n)) (sym rest) in
+    let same : is_ok (write_answer p (length old - at)) ≡ true = rw (← before.filled.long) took in
+    let put : laid_over (packet_words p) (drop at out) ≡ written p (drop at out) = rw (length-drop at out, took) in
+    let step = filled_on old out (packet_words p) at before.filled (accepted_room p (length old - at) (search rules)) in
+    let rest : length old - (at + size) ≡ length old - at - size = omega arith in
     subst (λ (buffer : List ℕ). Sending ps old (take at out ++ buffer) (i + 1) (at + size)) put
     (record {
       filled = step.0;
-      words =
-          ap (λ (front : List ℕ). front ++ stream (taken (drop (i + 1) ps) (length old - (at + size)))) step.1
-          ∙ append_assoc (take at out) (packet_words p) (stream (taken (drop (i + 1) ps) (length old - (at + size))))
-          ∙ ap (λ (back : List ℕ). take at out ++ back) (sym tail)
-          ∙ before.words;
-      code = ap (stream_answer (drop (i + 1) ps)) rest ∙ sym more.1 ∙ ap (λ (qs : List Packet). stream_answer qs room) (sym next) ∙ before.code;
+      words = rw (step.1, rest, append_assoc) (rw (next, same) at before.words);
+      code = rw rest (rw (next, same) at before.code);
     })
 
 pub sending_on : (ps : List Packet) (old out after : List ℕ) (i at size : ℕ) (c : Answer) → Sending ps old out i at → i < length ps

@@ -1,26 +1,14 @@
 // One line after another.
-ghost use Rattle.std.specs.Prelude.{◌≡◌, ◌∷◌, drop, Ok};
-ghost use Rattle.packet.specs.Reading.{Handed, packet_at};
+ghost use Rattle.std.specs.Prelude.{◌≡◌, ◌∷◌};
+ghost use Rattle.std.specs.Iterator.{YieldsFirst, item_count};
 ghost use Rattle.listing.specs.declared.walking.Stage.TheVariants.{Counting, Walking};
-ghost use Rattle.listing.specs.Lines.{first, listing, rest};
-ghost use Rattle.listing.specs.Listings.{counting_from, lines_left};
+ghost use Rattle.listing.specs.Lines.{listing};
+ghost use Rattle.listing.specs.Listings.{lines_left};
 
-use super::{Listing, Stage};
+use super::{Counts, Listing, Stage};
 use crate::Line;
 use message::Kind;
-use packet::Found;
-
-impl Stage {
-    // The counts from a kind on, if there is one.
-    fn counting_from(kind: Option<Kind>) -> Stage
-        ensures { result ≡ counting_from kind }
-    {
-        match kind {
-            Some(kind) => Stage::Counting(kind),
-            None => Stage::Ended,
-        }
-    }
-}
+use packet::{Found, Reader};
 
 impl<'a> Listing<'a> {
     /// The listing of words, before its first line.
@@ -28,23 +16,10 @@ impl<'a> Listing<'a> {
         ensures { lines_left result ≡ listing words.now }
     {
         Listing {
-            words,
-            at: 0,
+            reader: Reader::new(words),
             packets: 0,
-            counts: [0; 9],
+            counts: Counts([0; 9]),
             stage: Stage::Walking,
-        }
-    }
-
-    /// The next line, or none after the last.
-    pub fn next(&mut self) -> Option<Line>
-        ensures line { result ≡ first (lines_left self.old) }
-        ensures after { lines_left self.new ≡ rest (lines_left self.old) }
-    {
-        match self.stage {
-            Stage::Walking => Some(self.walk_on()),
-            Stage::Counting(kind) => Some(self.count_on(kind)),
-            Stage::Ended => None,
         }
     }
 
@@ -53,41 +28,30 @@ impl<'a> Listing<'a> {
         requires stage { self.old.stage ≡ Walking }
         ensures { lines_left self.old ≡ result ∷ lines_left self.new }
     {
-        if self.at >= self.words.len() {
+        let place = self.reader.place();
+        if self.reader.is_at_end() {
             self.stage = Stage::Counting(Kind::ReadRequest);
             return Line::Totals {
                 packets: self.packets,
-                words: self.words.len(),
+                words: place,
             };
         }
-        match packet::read(self.words, self.at) {
-            Ok(found) => self.pass(found),
+        match self.reader.next() {
+            Ok(Found { kind, packet, .. }) => {
+                self.packets += 1;
+                self.counts.count(kind);
+                Line::Packet {
+                    place,
+                    source: packet.source,
+                    kind,
+                    record: packet.message.record,
+                    value: packet.message.value,
+                }
+            }
             Err(fault) => {
                 self.stage = Stage::Ended;
                 Line::Fault(fault)
             }
-        }
-    }
-
-    // Passes a packet that was found at the place reached.
-    fn pass(&mut self, found: Found<'_>) -> Line
-        requires stage { self.old.stage ≡ Walking }
-        requires here { packet_at self.old.words.now self.old.at ≡ Ok found.packet }
-        requires handed { Handed (drop self.old.at self.old.words.now) found }
-        ensures { lines_left self.old ≡ result ∷ lines_left self.new }
-    {
-        let place = self.at;
-        let message = found.packet.message;
-        let index = found.kind.opcode() as usize - 1;
-        self.counts[index] += 1;
-        self.packets += 1;
-        self.at += found.words.len();
-        Line::Packet {
-            place,
-            source: found.packet.source,
-            kind: found.kind,
-            record: message.record,
-            value: message.value,
         }
     }
 
@@ -96,11 +60,27 @@ impl<'a> Listing<'a> {
         requires stage { self.old.stage ≡ Counting kind }
         ensures { lines_left self.old ≡ result ∷ lines_left self.new }
     {
-        let opcode = kind.opcode();
-        self.stage = Stage::counting_from(Kind::of(opcode + 1));
+        self.stage = Kind::try_from(u8::from(kind) + 1).map_or(Stage::Ended, Stage::Counting);
         Line::Count {
             kind,
-            packets: self.counts[opcode as usize - 1],
+            packets: self.counts.of(kind),
+        }
+    }
+}
+
+impl Iterator for Listing<'_> {
+    type Item = Line;
+
+    ghost next_gives = { YieldsFirst lines_left };
+
+    ghost remaining = { item_count lines_left };
+
+    /// The next line, or none after the last.
+    fn next(&mut self) -> Option<Line> {
+        match self.stage {
+            Stage::Walking => Some(self.walk_on()),
+            Stage::Counting(kind) => Some(self.count_on(kind)),
+            Stage::Ended => None,
         }
     }
 }
