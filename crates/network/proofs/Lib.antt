@@ -1,4 +1,2 @@
-pub mod Puts
-pub mod Drops
+pub mod Takes
 pub mod Clients
-pub mod Sizes

@@ -1,14 +1,14 @@
 -- What calls one after another answer and leave.
-use Rattle.std.specs.Prelude.{List, [], ◌∷◌}
+use Rattle.std.specs.Prelude.{List, fold}
 use Rattle.message.specs.Refusals.{Answer}
 use Rattle.network.specs.Traffic.{Traffic, after_drop, after_put, drop_answer, put_answer}
 use Rattle.network_client.specs.declared.Call.{Call}
 use Rattle.network_client.specs.declared.Call.TheVariants.{Put, DropHead}
 
 -- What one call answers.
-abbrev pub code_of : Traffic → Call → Answer
-code_of t (Put l m) = put_answer t l m
-code_of t (DropHead l) = drop_answer t l
+abbrev pub call_answer : Traffic → Call → Answer
+call_answer t (Put l m) = put_answer t l m
+call_answer t (DropHead l) = drop_answer t l
 
 -- The traffic after one call.
 abbrev pub after_call : Traffic → Call → Traffic
@@ -17,5 +17,4 @@ after_call t (DropHead l) = after_drop t l
 
 -- The traffic after calls, one after another.
 abbrev pub after_calls : Traffic → List Call → Traffic
-after_calls t [] = t
-after_calls t (call ∷ calls) = after_calls (after_call t call) calls
+after_calls t calls = fold after_call t calls

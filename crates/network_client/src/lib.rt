@@ -4,10 +4,10 @@
 
 ghost use Rattle.std.specs.Prelude.{◌≡◌, ◌≢◌};
 ghost use Rattle.network.specs.Traffic.{after_put, put_answer};
-ghost use Rattle.network_client.specs.Runs.{after_call, after_calls, code_of};
+ghost use Rattle.network_client.specs.Runs.{after_call, after_calls, call_answer};
 ghost use Rattle.network_client.specs.Pairs.{Apart};
 
-use message::{Refusal, Message};
+use message::{Message, Refusal};
 use network::Network;
 
 /// A call that changes a network.
@@ -32,14 +32,12 @@ pub fn put_both<N: Network>(
     ensures after { N.traffic net.new ≡ after_put (after_put (N.traffic net.old) first x) second y }
     ensures apart { (first ≢ second) → Apart (N.traffic net.old) (N.traffic net.new) first x second y result }
 {
-    let a = net.put(first, x);
-    let b = net.put(second, y);
-    (a, b)
+    (net.put(first, x), net.put(second, y))
 }
 
 /// Makes one call.
 pub fn apply<N: Network>(net: &mut N, call: Call) -> Result<(), Refusal>
-    ensures answer { result ≡ code_of (N.traffic net.old) call }
+    ensures answer { result ≡ call_answer (N.traffic net.old) call }
     ensures after { N.traffic net.new ≡ after_call (N.traffic net.old) call }
 {
     match call {
@@ -48,7 +46,7 @@ pub fn apply<N: Network>(net: &mut N, call: Call) -> Result<(), Refusal>
     }
 }
 
-/// Makes calls one after another.
+/// Makes calls one after another, whatever each of them answers.
 pub fn run<N: Network>(net: &mut N, calls: &[Call])
     ensures after { N.traffic net.new ≡ after_calls (N.traffic net.old) calls.now }
 {

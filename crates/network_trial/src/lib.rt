@@ -4,7 +4,7 @@
 
 #[cfg(test)]
 mod tests {
-    use message::{Refusal, Message};
+    use message::{Message, Refusal};
     use network::Network;
     use packet_network::PacketNetwork;
     use ring::Ring;
@@ -13,112 +13,78 @@ mod tests {
 
     // What a network shows: its answer to a call, and then how many messages wait in the lane, and the oldest of them.
     #[derive(Clone, Copy, PartialEq, Eq, Debug)]
-    struct Shown {
-        code: Refusal,
-        waiting: usize,
-        head: Option<Message>,
-    }
+    struct Shown(Result<(), Refusal>, usize, Option<Message>);
 
-    fn view(code: Refusal, waiting: usize, head: Option<Message>) -> Shown {
-        Shown {
-            code,
-            waiting,
-            head,
-        }
-    }
+    const BLANK: Message = Message {
+        opcode: 0,
+        record: 0,
+        value: 0,
+    };
+
+    const SHORT: Message = Message {
+        opcode: 9,
+        record: 0,
+        value: 0,
+    };
+
+    const LONG: Message = Message {
+        opcode: 4,
+        record: 63,
+        value: 0x0123_4567_89ab_cdef,
+    };
 
     fn put<N: Network>(net: &mut N, lane: usize, message: Message) -> Shown {
-        let code = net.put(lane, message);
-        view(code, net.waiting(lane), net.head(lane))
+        let answer = net.put(lane, message);
+        Shown(answer, net.waiting(lane), net.head(lane))
     }
 
     fn drop_head<N: Network>(net: &mut N, lane: usize) -> Shown {
-        let code = net.drop_head(lane);
-        view(code, net.waiting(lane), net.head(lane))
-    }
-
-    fn blank() -> Message {
-        Message {
-            opcode: 0,
-            record: 0,
-            value: 0,
-        }
-    }
-
-    fn short() -> Message {
-        Message {
-            opcode: 9,
-            record: 0,
-            value: 0,
-        }
-    }
-
-    fn long() -> Message {
-        Message {
-            opcode: 4,
-            record: 63,
-            value: 0x0123_4567_89ab_cdef,
-        }
+        let answer = net.drop_head(lane);
+        Shown(answer, net.waiting(lane), net.head(lane))
     }
 
     // From every offset of a lane of depth 2: a long, a short and a long packet, up to both refusals of a lane that is there.
     fn wraps<N: Network>(rt: &impl Abort, net: &mut N) {
         for _ in 0..8 {
-            assert_eq!(rt; put(net, 1, long()), view(Ok(()), 1, Some(long())));
-            assert_eq!(rt; put(net, 1, short()), view(Ok(()), 2, Some(long())));
-            assert_eq!(rt; put(net, 1, short()), view(Err(Refusal::Full), 2, Some(long())));
-            assert_eq!(rt; drop_head(net, 1), view(Ok(()), 1, Some(short())));
-            assert_eq!(rt; put(net, 1, long()), view(Ok(()), 2, Some(short())));
-            assert_eq!(rt; drop_head(net, 1), view(Ok(()), 1, Some(long())));
-            assert_eq!(rt; drop_head(net, 1), view(Ok(()), 0, None));
-            assert_eq!(rt; drop_head(net, 1), view(Err(Refusal::Empty), 0, None));
+            assert_eq!(rt; put(net, 1, LONG), Shown(Ok(()), 1, Some(LONG)));
+            assert_eq!(rt; put(net, 1, SHORT), Shown(Ok(()), 2, Some(LONG)));
+            assert_eq!(rt;
+                put(net, 1, SHORT),
+                Shown(Err(Refusal::Full), 2, Some(LONG))
+            );
+            assert_eq!(rt; drop_head(net, 1), Shown(Ok(()), 1, Some(SHORT)));
+            assert_eq!(rt; put(net, 1, LONG), Shown(Ok(()), 2, Some(SHORT)));
+            assert_eq!(rt; drop_head(net, 1), Shown(Ok(()), 1, Some(LONG)));
+            assert_eq!(rt; drop_head(net, 1), Shown(Ok(()), 0, None));
+            assert_eq!(rt; drop_head(net, 1), Shown(Err(Refusal::Empty), 0, None));
         }
     }
 
     // Lanes that are not there, and every way to be malformed; nothing is left behind.
     fn refuses<N: Network>(rt: &impl Abort, net: &mut N) {
-        let none = view(Err(Refusal::Malformed), 0, None);
-        assert_eq!(rt; put(net, 2, blank()), view(Err(Refusal::NoSuchTerminal), 0, None));
-        assert_eq!(rt; drop_head(net, 2), view(Err(Refusal::NoSuchTerminal), 0, None));
-        assert_eq!(rt; put(net, 0, blank()), none);
-        assert_eq!(rt;
-            put(
-                net,
-                0,
-                Message {
-                    opcode: 10,
-                    ..short()
-                },
-            ),
-            none
-        );
-        assert_eq!(rt;
-            put(
-                net,
-                0,
-                Message {
-                    record: 64,
-                    ..long()
-                },
-            ),
-            none
-        );
-        assert_eq!(rt;
-            put(
-                net,
-                0,
-                Message {
-                    value: 1,
-                    ..short()
-                },
-            ),
-            none
-        );
+        let absent = Shown(Err(Refusal::NoSuchTerminal), 0, None);
+        assert_eq!(rt; put(net, 2, BLANK), absent);
+        assert_eq!(rt; drop_head(net, 2), absent);
+        let malformed = [
+            BLANK,
+            Message {
+                opcode: 10,
+                ..SHORT
+            },
+            Message { record: 64, ..LONG },
+            Message { value: 1, ..SHORT },
+        ];
+        for message in malformed {
+            assert_eq!(rt;
+                put(net, 0, message),
+                Shown(Err(Refusal::Malformed), 0, None)
+            );
+        }
     }
 
     #[test]
     fn slots(rt: HostRuntime) {
-        let mut slots = [blank(); 4];
+        let mut slots = [BLANK; 4];
         assert_eq!(rt; SlotNetwork::check(4, 2, 2), Ok(()));
         assert_eq!(rt; SlotNetwork::check(3, 2, 2), Err(Refusal::Unfit));
         let mut net = SlotNetwork::new(&mut slots, 2, 2);
@@ -163,7 +129,7 @@ mod tests {
 
     #[test]
     fn alike(rt: HostRuntime) {
-        let mut slots = [blank(); 6];
+        let mut slots = [BLANK; 6];
         let mut words = [7; 24];
         let mut by_slots = SlotNetwork::new(&mut slots, 2, 3);
         let mut by_packets = PacketNetwork::new(&mut words, 2, 3);

@@ -13,7 +13,9 @@ use Rattle.packet.specs.Layout.{header, packet_words, value_words, words_as}
 use Rattle.packet.specs.Reading.{packet_at}
 use Rattle.packet.specs.Streams.{all_sendable, stream}
 use Rattle.packet.specs.Writing.{sendable, sendable_as}
-use Rattle.packet_network.specs.Packets.{found_packet, front, packet_in, packets_in, read_front, said, size_of}
+use Rattle.std.specs.Option.{option_map}
+use Rattle.std.specs.Result.{result_ok}
+use Rattle.packet_network.specs.Packets.{front, packet_in, packets_in, read_front, said, size_of}
 use Rattle.packet_network.proofs.Packs.{Packs, packs}
 
 -- The first four words behind a packet with a value (b) or without.
@@ -33,23 +35,22 @@ found_as (Some k) p rest kind can as-kind =
     let more = behind (carries_value k) rest in
     let is : front (words_as (Some k) p ++ rest) ≡ packet_words p ++ more =
     front_at (carries_value k) (header k p.source) p.message.«record» p.message.value rest ∙ ap (λ (ws : List ℕ). ws ++ more) (sym words) in
-    ap (λ (ws : List ℕ). found_packet (packet_at ws 0)) is ∙ ap found_packet (written_read p 0 (length (packet_words p ++ more)) more can)
+    ap (λ (ws : List ℕ). result_ok (packet_at ws 0)) is ∙ ap result_ok (written_read p 0 (length (packet_words p ++ more)) more can)
 
 -- A packet in front is found.
 pub front_found : (p : Packet) (rest : List ℕ) → sendable p ≡ true → read_front (packet_words p ++ rest) ≡ Some p
 front_found p rest can = found_as (kind_of p.message.opcode) p rest refl can can
 
 -- The oldest message of packed words, if there is one.
-abbrev pub message_of : Option Packet → Option Message
-message_of None = None
-message_of (Some p) = Some p.message
+abbrev message_of : Option Packet → Option Message
+message_of found = option_map (λ p. p.message) found
 
 head_packed : (l : ℕ) (ms : List Message) → all_sendable (packets_in l ms) ≡ true → message_of (read_front (stream (packets_in l ms))) ≡ slice_get ms 0
 head_packed l [] all = refl
 head_packed l (m ∷ ms) all =
     ap message_of (front_found (packet_in l m) (stream (packets_in l ms)) (and_parts (sendable (packet_in l m)) (all_sendable (packets_in l ms)) all).0)
 
-pub head_said : (l : ℕ) (words : List ℕ) → Packs l words → message_of (read_front words) ≡ slice_get (said words) 0
+pub head_said : (l : ℕ) (words : List ℕ) → Packs l words → option_map (λ p. p.message) (read_front words) ≡ slice_get (said words) 0
 head_said l words packed = ap (λ (ws : List ℕ). message_of (read_front ws)) (sym packed.whole) ∙ head_packed l (said words) packed.sendable
 
 -- What is left without the oldest.

@@ -1,5 +1,4 @@
 pub mod Packs
-pub mod Writes
 pub mod Fronts
 pub mod Holds
 pub mod Steps

@@ -11,6 +11,7 @@ use Rattle.packet.specs.declared.Packet.{Packet}
 use Rattle.packet.specs.Layout.{header, packet_words, source_fits, value_words, words_as}
 use Rattle.packet.specs.Streams.{Walk, all_sendable, stream}
 use Rattle.packet.specs.Writing.{sendable, sendable_as}
+use Rattle.packet_network.specs.Holds.{Packed}
 use Rattle.packet_network.specs.Packets.{messages, packet_in, packets_in, said, source_as}
 
 -- A well-formed message can be sent in every lane.
@@ -74,6 +75,9 @@ said_again l ms all = ap (λ (w : Walk). messages w.packets) (streams_read_back 
 pub record Packs (l : ℕ) (words : List ℕ) : Type 0 where
   pub whole : stream (packets_in l (said words)) ≡ words
   pub sendable : all_sendable (packets_in l (said words)) ≡ true
+
+pub packs_of : (l : ℕ) (words : List ℕ) (count depth : ℕ) → Packed l words count depth → Packs l words
+packs_of l words count depth packed = record { whole = packed.whole; sendable = packed.sendable }
 
 pub packs : (l : ℕ) (words : List ℕ) (ms : List Message) → words ≡ stream (packets_in l ms) → all_sendable (packets_in l ms) ≡ true
     → Packs l words × (said words ≡ ms)

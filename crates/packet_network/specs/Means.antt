@@ -1,6 +1,6 @@
 -- What a packet network means: the messages that the reader finds in the words of each lane.
 use Rattle.std.specs.Prelude.{ℕ, List}
-use Rattle.lanes.specs.Standing.{held}
+use Rattle.lanes.specs.Contents.{held}
 use Rattle.message.specs.declared.Message.{Message}
 use Rattle.network.specs.Traffic.{Traffic}
 use Rattle.packet_network.specs.declared.PacketNetwork.{PacketNetwork}

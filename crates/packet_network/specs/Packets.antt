@@ -1,9 +1,10 @@
 -- The messages of a lane as packets, one after another, and back.
-use Rattle.std.specs.Prelude.{ℕ, cond, List, [], ◌∷◌, length, Some, None, Ok, Err, Option, Result, slice_index}
+use Rattle.std.specs.Prelude.{ℕ, cond, List, [], ◌∷◌, length, Some, None, Option, slice_index}
+use Rattle.std.specs.Option.{option_map_or}
+use Rattle.std.specs.Result.{result_ok}
 use Rattle.message.specs.declared.Message.{Message}
 use Rattle.message.specs.declared.kinds.Kind.{Kind}
 use Rattle.message.specs.Kinds.{goes_home, kind_of}
-use Rattle.packet.specs.declared.Fault.{Fault}
 use Rattle.packet.specs.declared.Packet.{Packet}
 use Rattle.packet.specs.Layout.{packet_words}
 use Rattle.packet.specs.Reading.{packet_at}
@@ -37,14 +38,9 @@ abbrev pub front : List ℕ → List ℕ
 front words = slice_index words 0 ∷ slice_index words 1 ∷ slice_index words 2 ∷ slice_index words 3 ∷ []
 
 -- The packet that a reader finds there, if it finds one.
-abbrev pub found_packet : Result Packet Fault → Option Packet
-found_packet (Ok p) = Some p
-found_packet (Err f) = None
-
 abbrev pub read_front : List ℕ → Option Packet
-read_front words = found_packet (packet_at (front words) 0)
+read_front words = result_ok (packet_at (front words) 0)
 
 -- How many words it has.
 abbrev pub size_of : Option Packet → ℕ
-size_of None = 0
-size_of (Some p) = length (packet_words p)
+size_of found = option_map_or (λ p. length (packet_words p)) found 0

@@ -1,12 +1,12 @@
 // How a packet network is made, and its calls.
-ghost use Rattle.std.specs.Prelude.{◌≡◌, ◌*◌, length};
+ghost use Rattle.std.specs.Prelude.{◌≡◌, ◌*◌, IfOk, MatchResult, length};
 ghost use Rattle.network.specs.Sizes.{check_answer, no_traffic};
 ghost use Rattle.packet_network.specs.Means.{traffic_of};
 
 use crate::PacketNetwork;
-use crate::words::{oldest_in, oldest_size, words_in};
+use crate::words::{oldest_in, oldest_size, put_packet};
 use lanes::Lanes;
-use message::{Refusal, Message};
+use message::{Message, Refusal};
 use network::Network;
 
 impl<'a> PacketNetwork<'a> {
@@ -15,20 +15,10 @@ impl<'a> PacketNetwork<'a> {
     pub fn check(words: usize, lanes: usize, depth: usize) -> Result<(), Refusal>
         ensures { result ≡ check_answer lanes depth (4 * depth) words }
     {
-        if lanes < 1 || lanes > 64 {
-            return Err(Refusal::Unfit);
-        }
-        if depth < 1 || depth > 255 {
-            return Err(Refusal::Unfit);
-        }
-        if words < lanes * (4 * depth) {
-            return Err(Refusal::Unfit);
-        }
-        Ok(())
+        network::check(words, lanes, depth, 4)
     }
 
-    /// A network in which nothing waits. It requires that the check was passed, and so does not refuse: an answer that holds
-    /// either a refusal or a network over lent words is not within the language's reach.
+    /// A network in which nothing waits. It requires that the check was passed, and so does not refuse.
     pub fn new(words: &'a mut [u32], lanes: usize, depth: usize) -> PacketNetwork<'a>
         requires checked { check_answer lanes depth (4 * depth) (length words.old) ≡ Ok tt }
         ensures traffic { traffic_of result ≡ no_traffic lanes depth }
@@ -39,6 +29,20 @@ impl<'a> PacketNetwork<'a> {
             counts: [0; 64],
             depth,
         }
+    }
+
+    /// A network in which nothing waits, or the refusal of a check that was not passed.
+    pub fn over(
+        words: &'a mut [u32],
+        lanes: usize,
+        depth: usize,
+    ) -> Result<PacketNetwork<'a>, Refusal>
+        ensures answer { MatchResult result (λ net. check_answer lanes depth (4 * depth) (length words.old) ≡ Ok tt) (λ refusal. check_answer lanes depth (4 * depth) (length words.old) ≡ Err refusal) }
+        ensures traffic { IfOk result (λ net. traffic_of net ≡ no_traffic lanes depth) }
+        ensures lender { IfOk result (λ net. net.lanes.slots.ghost_name ≡ words.entry.ghost_name) }
+    {
+        PacketNetwork::check(words.len(), lanes, depth)?;
+        Ok(PacketNetwork::new(words, lanes, depth))
     }
 }
 
@@ -64,42 +68,23 @@ impl Network for PacketNetwork<'_> {
         if lane >= self.lanes() {
             return None;
         }
-        match oldest_in(&self.lanes, lane) {
-            Some(packet) => Some(packet.message),
-            None => None,
-        }
+        oldest_in(&self.lanes, lane).map(|packet| packet.message)
     }
 
+    #[tactic(auto, using(crate::proofs::Nets::put_taken), unfolding(network::specs::Traffic::put_answer, network::specs::Traffic::put_waiting))]
     fn put(&mut self, lane: usize, message: Message) -> Result<(), Refusal> {
-        if lane >= self.lanes() {
-            return Err(Refusal::NoSuchTerminal);
-        }
-        if !message.is_well_formed() {
-            return Err(Refusal::Malformed);
-        }
-        let count = self.counts[lane];
-        if count >= self.depth() {
-            return Err(Refusal::Full);
-        }
-        let (words, size) = words_in(lane, message);
-        let PacketNetwork { lanes, .. } = self;
-        let _ = lanes.put_all(lane, &words[..size]);
-        self.counts[lane] = count + 1;
+        self.check_put(lane, message)?;
+        put_packet(&mut self.lanes, lane, message)?;
+        self.counts[lane] += 1;
         Ok(())
     }
 
+    #[tactic(auto, using(crate::proofs::Nets::drop_gone), unfolding(network::specs::Traffic::drop_answer, network::specs::Traffic::drop_waiting))]
     fn drop_head(&mut self, lane: usize) -> Result<(), Refusal> {
-        if lane >= self.lanes() {
-            return Err(Refusal::NoSuchTerminal);
-        }
-        let waiting = self.counts[lane];
-        if waiting == 0 {
-            return Err(Refusal::Empty);
-        }
+        self.check_drop(lane)?;
         let size = oldest_size(&self.lanes, lane);
-        let PacketNetwork { lanes, .. } = self;
-        let _ = lanes.discard_many(lane, size);
-        self.counts[lane] = waiting - 1;
+        self.lanes.discard_many(lane, size)?;
+        self.counts[lane] -= 1;
         Ok(())
     }
 }

@@ -3,8 +3,8 @@
 #![tactic(auto)]
 
 ghost use Rattle.std.specs.Prelude.{◌≡◌, ◌*◌, ◌≤◌};
-ghost use Rattle.lanes.specs.Standing.{Standing, held};
-ghost use Rattle.packet_network.specs.Holds.{Counted, Sendable, Whole, Within};
+ghost use Rattle.lanes.specs.Contents.{held};
+ghost use Rattle.packet_network.specs.Holds.{Holds};
 
 use lanes::Lanes;
 
@@ -20,9 +20,5 @@ pub struct PacketNetwork<'a> {
     depth: usize,
     ghost sizes: { (1 ≤ lanes.count) × (lanes.count ≤ 64) × (1 ≤ depth) × (depth ≤ 255) },
     ghost words: { lanes.size ≡ 4 * depth },
-    ghost standing: { Standing lanes },
-    ghost within: { Within counts lanes.count depth },
-    ghost whole: { Whole (held lanes) lanes.count },
-    ghost counted: { Counted (held lanes) counts lanes.count },
-    ghost sendable: { Sendable (held lanes) lanes.count },
+    ghost holds: { Holds (held lanes) counts lanes.count depth },
 }

@@ -1,81 +1,66 @@
 // Messages as the words of a lane.
-ghost use Rattle.std.specs.Prelude.{◌≡◌, ◌<◌, ◌≤◌, true, length, take, slice_index};
-ghost use Rattle.lanes.specs.Standing.{Standing, held};
-ghost use Rattle.message.specs.Kinds.{kind_of};
+ghost use Rattle.std.specs.Prelude.{◌≡◌, ◌<◌, true};
+ghost use Rattle.lanes.specs.Calls.{after_put, put_answer};
+ghost use Rattle.lanes.specs.Contents.{contents, held};
 ghost use Rattle.message.specs.Messages.{well_formed};
 ghost use Rattle.packet.specs.Layout.{packet_words};
-ghost use Rattle.packet_network.specs.Packets.{packet_in, read_front, size_of, source_as};
+ghost use Rattle.packet_network.specs.Packets.{front, packet_in, read_front, size_of};
 
 use lanes::Lanes;
-use message::Message;
+use message::{Message, Refusal};
 use packet::Packet;
 
-/// The source that the packet of a message names in a lane.
-fn source_in(lane: usize, message: Message) -> u16
-    requires lane { lane < 64 }
-    ensures { result ≡ source_as (kind_of message.opcode) lane }
+/// The packet of a message in a lane. It names the lane as its source if it goes to the home, and else the home.
+fn packet_in(lane: usize, message: Message) -> Packet
+    requires { lane < 64 }
+    ensures { result ≡ packet_in lane message }
 {
-    match message.kind() {
+    let source = match message.kind() {
         Some(kind) if kind.goes_home() => lane as u16,
         _ => 64,
-    }
+    };
+    Packet { source, message }
 }
 
-/// The words of a message in a lane, and how many they are.
-pub(crate) fn words_in(lane: usize, message: Message) -> ([u32; 4], usize)
+/// The words of a message's packet join the end of a lane, if there is room for all of them.
+pub(crate) fn put_packet(
+    lanes: &mut Lanes<'_, u32>,
+    lane: usize,
+    message: Message,
+) -> Result<(), Refusal>
     requires lane { lane < 64 }
     requires formed { well_formed message ≡ true }
-    ensures words { take result.1 result.0 ≡ packet_words (packet_in lane message) }
-    ensures size { result.1 ≡ length (packet_words (packet_in lane message)) }
-    ensures few { result.1 ≤ 4 }
+    ensures answer { result ≡ put_answer (contents lanes.old) lane (packet_words (packet_in lane message)) }
+    ensures after { contents lanes.new ≡ after_put (contents lanes.old) lane (packet_words (packet_in lane message)) }
 {
-    let packet = Packet {
-        source: source_in(lane, message),
-        message,
-    };
+    let packet = packet_in(lane, message);
     let mut words = [0; 4];
-    let _ = packet.write(&mut words);
-    (words, packet.size())
+    packet.write(&mut words)?;
+    lanes.put_all(lane, &words[..packet.size()])
 }
 
-/// A word that waits in a lane, or 0 past the last.
-fn word_at(lanes: &Lanes<'_, u32>, lane: usize, k: usize) -> u32
-    requires standing { Standing lanes.now }
-    requires lane { lane < lanes.now.count }
-    ensures { result ≡ slice_index (held lanes.now lane) k }
+/// The first four words of a lane, with 0 for those that are not there.
+fn front_in(lanes: &Lanes<'_, u32>, lane: usize) -> [u32; 4]
+    requires { lane < lanes.now.count }
+    ensures { result ≡ front (held lanes.now lane) }
 {
-    match lanes.look(lane, k) {
-        Some(word) => word,
-        None => 0,
-    }
+    std::array::from_fn(|k| lanes.look(lane, k).unwrap_or(0))
 }
 
 /// The oldest packet of a lane, or none: the first four of its words, read by the packet reader.
 pub(crate) fn oldest_in(lanes: &Lanes<'_, u32>, lane: usize) -> Option<Packet>
-    requires standing { Standing lanes.now }
-    requires lane { lane < lanes.now.count }
+    requires { lane < lanes.now.count }
     ensures { result ≡ read_front (held lanes.now lane) }
 {
-    let words = [
-        word_at(lanes, lane, 0),
-        word_at(lanes, lane, 1),
-        word_at(lanes, lane, 2),
-        word_at(lanes, lane, 3),
-    ];
-    match packet::read(&words, 0) {
-        Ok(found) => Some(found.packet),
-        Err(_) => None,
-    }
+    packet::read(&front_in(lanes, lane), 0)
+        .ok()
+        .map(|found| found.packet)
 }
 
 /// How many words the oldest packet of a lane has: 0 if there is none.
 pub(crate) fn oldest_size(lanes: &Lanes<'_, u32>, lane: usize) -> usize
-    requires standing { Standing lanes.now }
-    requires lane { lane < lanes.now.count }
+    requires { lane < lanes.now.count }
     ensures { result ≡ size_of (read_front (held lanes.now lane)) }
 {
-    match oldest_in(lanes, lane) {
-        Some(packet) => packet.size(),
-        None => 0,
-    }
+    oldest_in(lanes, lane).map_or(0, |packet| packet.size())
 }
