@@ -15,8 +15,7 @@ pub(crate) struct Header {
 impl From<Header> for u32 {
     ghost from_gives = { λ fields word. word ≡ header fields.kind fields.source };
 
-    fn from(header: Header) -> u32 {
-        let Header { kind, source } = header;
+    fn from(Header { kind, source }: Header) -> u32 {
         (u32::from(source) << 8 | kind.words() as u32) << 8 | u32::from(u8::from(kind))
     }
 }
@@ -72,8 +71,7 @@ impl From<u64> for Halves {
 impl From<Halves> for u64 {
     ghost from_gives = { λ halves value. value ≡ value_in halves.low halves.high };
 
-    fn from(halves: Halves) -> u64 {
-        let Halves { low, high } = halves;
+    fn from(Halves { low, high }: Halves) -> u64 {
         u64::from(high) << 32 | u64::from(low)
     }
 }

@@ -13,15 +13,11 @@ fn record_and_value(kind: Kind, front: &[u32]) -> Option<(u32, u64)>
     ensures { MatchOption result (length front.now < words_of kind)
         (λ (about, value). (words_of kind ≤ length front.now) × (message_of kind about value ≡ (said kind front.now).message)) }
 {
-    match front {
+    match *front {
         [_, record, low, high, ..] if kind.carries_value() => {
-            let halves = Halves {
-                low: *low,
-                high: *high,
-            };
-            Some((*record, u64::from(halves)))
+            Some((record, u64::from(Halves { low, high })))
         }
-        [_, record, ..] if !kind.carries_value() => Some((*record, 0)),
+        [_, record, ..] if !kind.carries_value() => Some((record, 0)),
         _ => None,
     }
 }
@@ -36,8 +32,8 @@ fn read_front(front: &[u32], at: usize) -> Result<Found<'_>, Fault>
         refusal: Refusal::MissingWords,
         place: at + front.len(),
     };
-    let head = front.first().ok_or(missing)?;
-    let header = Header::try_from(*head).map_err(|refusal| Fault { refusal, place: at })?;
+    let head = *front.first().ok_or(missing)?;
+    let header = Header::try_from(head).map_err(|refusal| Fault { refusal, place: at })?;
     let Header { kind, source } = header;
     let (record, value) = record_and_value(kind, front).ok_or(missing)?;
     if !header.source_fits() {
