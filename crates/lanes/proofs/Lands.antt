@@ -1,22 +1,19 @@
 -- What a change of one lane's part and span makes of what waits in the lanes.
-use Rattle.std.proofs.Common.{◌≡◌, ℕ, ◌+◌, ◌-◌, ◌*◌, ◌<◌, ◌≤◌, ltb, List, [], length, set, replicate, None, sym, ap, ◌∙◌, ⊎_elim, arith, Some, Err}
+use Rattle.std.proofs.Common.{◌≡◌, ℕ, ◌+◌, ◌-◌, ◌*◌, ◌<◌, ◌≤◌, ltb, List, [], length, set, replicate, sym, ap, ◌∙◌, ⊎_elim, arith, Ok}
 use borrow.Rule.Slice.PartMut.{put_mid}
 use mathlib.Core.Path.{fun_ext}
-use Rattle.std.proofs.lemmas.List.{get_or_past, get_or-replicate, get_or-set_other, get_or-set_same, length-replicate, places}
+use Rattle.std.proofs.lemmas.List.{get_or_past, get_or-replicate, get_or-set_other, get_or-set_same, length-replicate}
 use Rattle.std.proofs.lemmas.Bool.{cases_lt, cond-true, le-ltb, lt-ltb}
-use Rattle.std.specs.List.{between, slice_get}
-use Rattle.std.specs.Result.{result_ok}
+use Rattle.std.specs.List.{between}
 use Rattle.std.specs.declared.ops.Range.{Range}
-use Rattle.message.specs.Checks.{given}
 use Rattle.message.specs.Lists.{with_list}
-use Rattle.message.specs.Refusals.{Answer}
-use Rattle.message.specs.declared.refusals.Refusal.TheVariants.{NoSuchTerminal}
 use Rattle.message.proofs.Lists.{with_is}
 use Rattle.ring.specs.Calls as ring
-use Rattle.ring.specs.Spans.{within}
 use Rattle.ring.specs.Waiting.{waiting}
 use Rattle.ring.specs.declared.Span.{Span}
-use Rattle.lanes.specs.Calls.{Contents, counted, looked, with_ring}
+use Rattle.lanes.specs.declared.Lanes.{Lanes}
+use Rattle.lanes.specs.Contents.{contents, held}
+use Rattle.lanes.specs.Calls.{ring_of, with_ring}
 use Rattle.lanes.specs.Parts.{no_span, part, part_answer, span_at, waiting_in}
 use Rattle.lanes.proofs.Parts.{length_part, over, part_other, part_same}
 
@@ -25,7 +22,7 @@ pub record Found (count size l : ℕ) (slots : Range ℕ) : Type 0 where
   pub there : l < count
   pub are : slots ≡ record { start = l * size; end = l * size + size }
 
-pub found : (count size l : ℕ) (slots : Range ℕ) → Some slots ≡ result_ok (part_answer count size l) → Found count size l slots
+pub found : (count size l : ℕ) (slots : Range ℕ) → Ok slots ≡ part_answer count size l → Found count size l slots
 found count size l slots is =
     ⊎_elim
     (λ (there : l < count). let yes = lt-ltb l count there in
@@ -34,19 +31,16 @@ found count size l slots is =
     let never = rw no at is in absurd (let z : ◌≡◌ {A = ℕ} 0 1 = cc in omega arith))
     (cases_lt l count)
 
--- Such a lane answers what its ring does.
-pub there_answer : (count l : ℕ) (answer : Answer) → l < count → answer ≡ given (ltb l count) (Err NoSuchTerminal) answer
-there_answer count l answer there = sym (cond-true (ltb l count) answer (Err NoSuchTerminal) (lt-ltb l count there))
-
 -- The ring over a lane's part holds what the lane does.
-pub same_ring : {X : Type 0} (xs : List X) (spans : List Span) (count size l lender : ℕ) (slots : Range ℕ) → count * size ≤ length xs → Found count size l slots
-    → ◌≡◌ {A = ring.Contents X} (record { items = waiting (between slots.start slots.end xs) (span_at spans l); room = length (between slots.start slots.end xs); lender = lender })
-    (record { items = waiting_in xs spans size l; room = size; lender = lender })
+pub same_ring : {X : Type 0} (lanes : Lanes X) (l : ℕ) (slots : Range ℕ) → Found lanes.count lanes.size l slots
+    → ◌≡◌ {A = ring.Contents X} (record { items = waiting (between slots.start slots.end lanes.slots.now) (span_at lanes.spans l); room = length (between slots.start slots.end lanes.slots.now); lender = lanes.slots.ghost_name })
+    (ring_of (contents lanes) l)
 unfolding waiting_in
-same_ring xs spans count size l lender slots room here =
-    let long : length (part xs size l) ≡ size = length_part xs count size l room here.there in
-    ap (λ (slots : Range ℕ). record { items = waiting (between slots.start slots.end xs) (span_at spans l); room = length (between slots.start slots.end xs); lender = lender }) here.are
-    ∙ ap (λ (n : ℕ). record { items = waiting (part xs size l) (span_at spans l); room = n; lender = lender }) long
+same_ring lanes l slots here =
+    let xs : List _ = lanes.slots.now in
+    let long : length (part xs lanes.size l) ≡ lanes.size = length_part xs lanes.count lanes.size l lanes.room here.there in
+    ap (λ (slots : Range ℕ). record { items = waiting (between slots.start slots.end xs) (span_at lanes.spans l); room = length (between slots.start slots.end xs); lender = lanes.slots.ghost_name }) here.are
+    ∙ ap (λ (n : ℕ). record { items = waiting (part xs lanes.size l) (span_at lanes.spans l); room = n; lender = lanes.slots.ghost_name }) long
 
 lands : {X : Type 0} (xs : List X) (spans : List Span) (count size l : ℕ) (ys : List X) (span : Span) → count * size ≤ length xs → l < count → l < length spans → length ys ≡ size
     → waiting_in (over xs size l ys) (set spans l span) size ≡ with_list (waiting_in xs spans size) l (waiting ys span)
@@ -59,16 +53,16 @@ lands xs spans count size l ys span room there listed long =
     ∙ ap (λ (s : Span). waiting (part xs size k) s) (get_or-set_other spans l k span no_span apart))
 
 -- The lanes after a change of one.
-pub landed : {X : Type 0} (xs : List X) (spans : List Span) (count size l lender : ℕ) (slots : Range ℕ) (ys : List X) (span : Span) (now : ring.Contents X)
-    → count * size ≤ length xs → Found count size l slots → l < length spans → length ys ≡ size → waiting ys span ≡ now.items
-    → ◌≡◌ {A = Contents X} (record { count = count; size = size; held = waiting_in (put_mid slots.start (slots.end - slots.start) xs ys) (set spans l span) size; lender = lender })
-    (with_ring (record { count = count; size = size; held = waiting_in xs spans size; lender = lender }) l now)
-landed xs spans count size l lender slots ys span now room here listed long is =
-    ap (λ (held : ℕ → List _). record { count = count; size = size; held = held; lender = lender })
-    (ap (λ (slots : Range ℕ). waiting_in (put_mid slots.start (slots.end - slots.start) xs ys) (set spans l span) size) here.are
-    ∙ lands xs spans count size l ys span room here.there listed long
-    ∙ ap (with_list (waiting_in xs spans size) l) is
-    ∙ sym (cond-true (ltb l count) (with_list (waiting_in xs spans size) l now.items) (waiting_in xs spans size) (lt-ltb l count here.there)))
+pub landed : {X : Type 0} (lanes : Lanes X) (l : ℕ) (slots : Range ℕ) (ys : List X) (span : Span) (now : ring.Contents X)
+    → Found lanes.count lanes.size l slots → l < length lanes.spans → length ys ≡ lanes.size → waiting ys span ≡ now.items
+    → record (contents lanes) { held = waiting_in (put_mid slots.start (slots.end - slots.start) lanes.slots.now ys) (set lanes.spans l span) lanes.size }
+    ≡ with_ring (contents lanes) l now
+landed lanes l slots ys span now here listed long is =
+    ap (λ (f : ℕ → List _). record (contents lanes) { held = f })
+    (ap (λ (slots : Range ℕ). waiting_in (put_mid slots.start (slots.end - slots.start) lanes.slots.now ys) (set lanes.spans l span) lanes.size) here.are
+    ∙ lands lanes.slots.now lanes.spans lanes.count lanes.size l ys span lanes.room here.there listed long
+    ∙ ap (with_list (held lanes) l) is
+    ∙ sym (cond-true (ltb l lanes.count) (with_list (held lanes) l now.items) (held lanes) (lt-ltb l lanes.count here.there)))
 
 -- New lanes hold nothing.
 pub waiting_none : {X : Type 0} (n : ℕ) (xs : List X) (size : ℕ) (none : Span) → (none.start ≡ 0) × (none.count ≡ 0)
@@ -81,18 +75,3 @@ waiting_none n xs size none is =
     (λ (past : n ≤ l). let long : length {A = Span} (replicate n none) ≡ n = length-replicate n none in
     let end : length {A = Span} (replicate n none) ≤ l = omega arith in get_or_past (replicate n none) l no_span end)
     (cases_lt l n)))
-
--- How many wait in a lane that is there, and the k-th of them.
-pub counted_is : {X : Type 0} (xs : List X) (spans : List Span) (count size l lender : ℕ) → count * size ≤ length xs → l < count
-    → (within size (span_at spans l)).count ≡ counted (record { count = count; size = size; held = waiting_in xs spans size; lender = lender }) l
-unfolding waiting_in
-counted_is xs spans count size l lender room there =
-    let long : length (part xs size l) ≡ size = length_part xs count size l room there in
-    sym (cond-true (ltb l count) (length (waiting_in xs spans size l)) 0 (lt-ltb l count there) ∙ grind (arith, places, long))
-
-pub looked_is : {X : Type 0} (xs : List X) (spans : List Span) (count size l k lender : ℕ) (slots : Range ℕ) → Found count size l slots
-    → slice_get (waiting (between slots.start slots.end xs) (span_at spans l)) k ≡ looked (record { count = count; size = size; held = waiting_in xs spans size; lender = lender }) l k
-unfolding waiting_in
-looked_is xs spans count size l k lender slots here =
-    ap (λ (slots : Range ℕ). slice_get (waiting (between slots.start slots.end xs) (span_at spans l)) k) here.are
-    ∙ sym (cond-true (ltb l count) (slice_get (waiting_in xs spans size l) k) None (lt-ltb l count here.there))

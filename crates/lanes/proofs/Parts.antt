@@ -1,8 +1,7 @@
 -- The parts of a slice, each a lane's: they lie side by side, so that a write to one leaves the others.
-use Rattle.std.proofs.Common.{◌≡◌, ℕ, ◌+◌, ◌-◌, ◌*◌, ◌<◌, ◌≤◌, List, length, take, drop, sym, ap, ◌∙◌, ⊎_elim, mul-le-mul_right, suc-mul, arith, rules}
+use Rattle.std.proofs.Common.{◌≡◌, ℕ, ◌+◌, ◌-◌, ◌*◌, ◌<◌, ◌≤◌, List, length, take, drop, sym, ap, ◌∙◌, ⊎_elim, mul-le-mul_right, suc-mul, arith}
 use borrow.Rule.Slice.PartMut.{put_mid}
 use Rattle.std.proofs.lemmas.List.Edits.{length-between}
-use Rattle.std.proofs.lemmas.List.{places}
 use Rattle.std.proofs.lemmas.Slice.{between_is, between-put_mid, drop-put_mid, take-put_mid_below}
 use Rattle.std.proofs.lemmas.Bool.{cases_order}
 use Rattle.lanes.specs.Parts.{part}
@@ -22,12 +21,6 @@ length_part xs count size l room there =
 -- The slots after a lane's part holds other elements.
 abbrev pub over : {X : Type 0} → List X → ℕ → ℕ → List X → List X
 over xs size l ys = put_mid (l * size) (l * size + size - l * size) xs ys
-
-pub length_over : {X : Type 0} (xs ys : List X) (count size l : ℕ) → count * size ≤ length xs → l < count → length ys ≡ size
-    → length (over xs size l ys) ≡ length xs
-length_over xs ys count size l room there long =
-    let end = ends_within (length xs) count size l room there in
-    search (rules, places)
 
 pub part_same : {X : Type 0} (xs ys : List X) (count size l : ℕ) → count * size ≤ length xs → l < count → length ys ≡ size
     → part (over xs size l ys) size l ≡ ys

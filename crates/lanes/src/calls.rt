@@ -34,6 +34,7 @@ fn discard_in<T: Copy>(part: &mut [T], span: &mut Span, k: usize) -> Result<(), 
     answer
 }
 
+#[tactic(auto, using(crate::proofs::Parts::length_part), unfolding(crate::specs::Parts::waiting_in))]
 impl<'a, T: Copy> Lanes<'a, T> {
     /// So many lanes of so many slots each, with nothing in them.
     pub fn new(slots: &'a mut [T], count: usize, size: usize) -> Lanes<'a, T>
@@ -85,8 +86,7 @@ impl<'a, T: Copy> Lanes<'a, T> {
         ensures after { contents self.new ≡ after_put (contents self.old) lane xs.now }
     {
         let part = self.part(lane)?;
-        let Lanes { slots, spans, .. } = self;
-        put_in(&mut slots[part], &mut spans[lane], xs)
+        put_in(&mut self.slots[part], &mut self.spans[lane], xs)
     }
 
     /// The k oldest elements of a lane go, if so many wait.
@@ -95,7 +95,6 @@ impl<'a, T: Copy> Lanes<'a, T> {
         ensures after { contents self.new ≡ after_discard k (contents self.old) lane }
     {
         let part = self.part(lane)?;
-        let Lanes { slots, spans, .. } = self;
-        discard_in(&mut slots[part], &mut spans[lane], k)
+        discard_in(&mut self.slots[part], &mut self.spans[lane], k)
     }
 }

@@ -102,6 +102,27 @@ mod tests {
         refuses(&rt, &mut net);
     }
 
+    // Sizes that do not fit are refused, and what fits is made.
+    #[test]
+    fn over(rt: HostRuntime) {
+        let mut slots = [BLANK; 4];
+        let mut words = [7; 16];
+        assert_eq!(rt;
+            SlotNetwork::over(&mut slots, 2, 3).err(),
+            Some(Refusal::Unfit)
+        );
+        assert_eq!(rt;
+            PacketNetwork::over(&mut words, 0, 2).err(),
+            Some(Refusal::Unfit)
+        );
+        if let Ok(mut net) = SlotNetwork::over(&mut slots, 2, 2) {
+            wraps(&rt, &mut net);
+        }
+        if let Ok(mut net) = PacketNetwork::over(&mut words, 2, 2) {
+            wraps(&rt, &mut net);
+        }
+    }
+
     // A ring of no slots is full and empty at once.
     #[test]
     fn no_slots(rt: HostRuntime) {

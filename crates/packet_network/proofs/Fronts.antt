@@ -1,5 +1,5 @@
 -- The oldest packet of packed words: the reader finds it in their first four, and without it the later messages are left.
-use Rattle.std.proofs.Common.{◌≡◌, ℕ, ◌≤◌, Bool, true, false, List, [], ◌∷◌, ◌++◌, length, get_or, drop, Some, None, Option, sym, refl, ap, ◌∙◌, arith}
+use Rattle.std.proofs.Common.{◌≡◌, ℕ, ◌-◌, ◌≤◌, Bool, true, false, List, [], ◌∷◌, ◌++◌, length, get_or, drop, Some, None, Option, sym, refl, ap, ◌∙◌, arith}
 use Rattle.std.proofs.lemmas.List.{drop_at, length-append}
 use Rattle.std.proofs.lemmas.Bool.{and_parts}
 use Rattle.std.specs.List.{slice_get}
@@ -16,7 +16,8 @@ use Rattle.packet.specs.Writing.{sendable, sendable_as}
 use Rattle.std.specs.Option.{option_map}
 use Rattle.std.specs.Result.{result_ok}
 use Rattle.packet_network.specs.Packets.{front, packet_in, packets_in, read_front, said, size_of}
-use Rattle.packet_network.proofs.Packs.{Packs, packs}
+use Rattle.packet_network.specs.Holds.{Packed}
+use Rattle.packet_network.proofs.Packs.{packed_as}
 
 -- The first four words behind a packet with a value (b) or without.
 abbrev behind : Bool → List ℕ → List ℕ
@@ -50,8 +51,8 @@ head_packed l [] all = refl
 head_packed l (m ∷ ms) all =
     ap message_of (front_found (packet_in l m) (stream (packets_in l ms)) (and_parts (sendable (packet_in l m)) (all_sendable (packets_in l ms)) all).0)
 
-pub head_said : (l : ℕ) (words : List ℕ) → Packs l words → option_map (λ p. p.message) (read_front words) ≡ slice_get (said words) 0
-head_said l words packed = ap (λ (ws : List ℕ). message_of (read_front ws)) (sym packed.whole) ∙ head_packed l (said words) packed.sendable
+pub head_said : (l : ℕ) (words : List ℕ) (count depth : ℕ) → Packed l words count depth → option_map (λ p. p.message) (read_front words) ≡ slice_get (said words) 0
+head_said l words count depth packed = ap (λ (ws : List ℕ). message_of (read_front ws)) (sym packed.whole) ∙ head_packed l (said words) packed.sendable
 
 -- What is left without the oldest.
 size_packed : (l : ℕ) (m : Message) (ms : List Message) → all_sendable (packets_in l (m ∷ ms)) ≡ true
@@ -66,8 +67,8 @@ fits_packed l (m ∷ ms) all =
     let long = length-append (packet_words (packet_in l m)) (stream (packets_in l ms)) in
     omega arith
 
-pub oldest_fits : (l : ℕ) (words : List ℕ) → Packs l words → size_of (read_front words) ≤ length words
-oldest_fits l words packed = rw packed.whole at (fits_packed l (said words) packed.sendable)
+pub oldest_fits : (l : ℕ) (words : List ℕ) (count depth : ℕ) → Packed l words count depth → size_of (read_front words) ≤ length words
+oldest_fits l words count depth packed = rw packed.whole at (fits_packed l (said words) packed.sendable)
 
 drop_packed : (l : ℕ) (ms : List Message) → all_sendable (packets_in l ms) ≡ true
     → drop (size_of (read_front (stream (packets_in l ms)))) (stream (packets_in l ms)) ≡ stream (packets_in l (later ms))
@@ -78,9 +79,13 @@ later_sendable : (l : ℕ) (ms : List Message) → all_sendable (packets_in l ms
 later_sendable l [] all = refl
 later_sendable l (m ∷ ms) all = (and_parts (sendable (packet_in l m)) (all_sendable (packets_in l ms)) all).1
 
-pub oldest_gone : (l : ℕ) (words : List ℕ) → Packs l words
-    → Packs l (drop (size_of (read_front words)) words) × (said (drop (size_of (read_front words)) words) ≡ later (said words))
-oldest_gone l words packed =
-    packs l (drop (size_of (read_front words)) words) (later (said words))
+length_later : (ms : List Message) (n : ℕ) → length ms ≡ n → length (later ms) ≡ n - 1
+length_later [] n is = omega arith
+length_later (m ∷ ms) n is = omega arith
+
+pub oldest_gone : (l : ℕ) (words : List ℕ) (count depth : ℕ) → Packed l words count depth
+    → Packed l (drop (size_of (read_front words)) words) (count - 1) depth × (said (drop (size_of (read_front words)) words) ≡ later (said words))
+oldest_gone l words count depth packed =
+    packed_as l (drop (size_of (read_front words)) words) (later (said words)) (count - 1) depth
     (ap (λ (ws : List ℕ). drop (size_of (read_front ws)) ws) (sym packed.whole) ∙ drop_packed l (said words) packed.sendable)
-    (later_sendable l (said words) packed.sendable)
+    (later_sendable l (said words) packed.sendable) (length_later (said words) count packed.counted) (omega (arith, packed.within))

@@ -1,7 +1,7 @@
 -- What a packet network holds of its lanes is kept by a change of one lane.
 use Rattle.std.proofs.Common.{◌≡◌, ℕ, ◌<◌, ◌≤◌, List, [], length, get_or, set, replicate, sym, refl, ap, subst, ⊎_elim, arith}
-use Rattle.std.proofs.lemmas.List.{get_or_past, get_or-replicate, get_or-set_other, get_or-set_same, length-replicate}
-use Rattle.std.proofs.lemmas.Bool.{cases_eq, cases_lt}
+use Rattle.std.proofs.lemmas.List.{get_or-replicate, get_or-set_other, get_or-set_same}
+use Rattle.std.proofs.lemmas.Bool.{cases_eq}
 use Rattle.message.specs.Lists.{with_list}
 use Rattle.message.proofs.Lists.{with_is, with_other, with_same}
 use Rattle.packet_network.specs.Holds.{Holds, Packed}
@@ -26,20 +26,9 @@ said_with f l words =
     with_is (said_in f) (said_in (with_list f l words)) l (said words) (ap said (with_same f l words)) (λ k apart. ap said (with_other f l k words apart))
 
 -- A new network holds it.
-zeros : (n l : ℕ) → ◌≡◌ {A = ℕ} (get_or (replicate n 0) l 0) 0
-zeros n l =
-    ⊎_elim (λ (inside : l < n). get_or-replicate n l 0 0 inside)
-    (λ (past : n ≤ l). let long : length {A = ℕ} (replicate n 0) ≡ n = length-replicate n _ in
-    let end : length {A = ℕ} (replicate n 0) ≤ l = omega arith in get_or_past _ l _ end)
-    (cases_lt l n)
-
 none_packed : (l n depth : ℕ) → ◌≡◌ {A = ℕ} n 0 → Packed l [] n depth
 unfolding said
 none_packed l n depth zero = record { whole = refl; sendable = refl; counted = sym zero; within = omega arith }
 
-pub holds_none : (n lanes depth : ℕ) → Holds (λ l. []) (replicate n 0) lanes depth
-holds_none n lanes depth l there = none_packed l _ depth (zeros n l)
-
-pub says_none : (l : ℕ) → said_in (λ l. []) l ≡ []
-unfolding said
-says_none l = refl
+pub holds_none : (n lanes depth : ℕ) → lanes ≤ n → Holds (λ l. []) (replicate n 0) lanes depth
+holds_none n lanes depth few l there = none_packed l _ depth (get_or-replicate n l 0 0 (omega arith))

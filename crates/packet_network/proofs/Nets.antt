@@ -17,7 +17,6 @@ use Rattle.packet_network.specs.Holds.{Holds, Packed}
 use Rattle.packet_network.specs.Means.{said_in, traffic_of}
 use Rattle.packet_network.specs.Packets.{packet_in, read_front, said, size_of}
 use Rattle.packet_network.proofs.Fronts.{head_said}
-use Rattle.packet_network.proofs.Packs.{packs_of}
 use Rattle.packet_network.proofs.Holds.{kept, said_with}
 use Rattle.packet_network.proofs.Steps.{Drop, Put, drop_step, loses, put_step, takes}
 
@@ -74,8 +73,7 @@ record Gone (net : PacketNetwork) (l : ℕ) : Type 0 where
 gone : (net : PacketNetwork) (l : ℕ) → drop_answer (traffic_of net) l ≡ accepted → Gone net l
 gone net l accepts =
     let lost = lost (traffic_of net) l accepts in
-    let packed = net.holds l lost.there in
-    let step = drop_step l (held net.lanes l) (get_or net.counts l 0) net.depth packed (omega (arith, packed.counted, lost.some)) in
+    let step = drop_step l (held net.lanes l) (get_or net.counts l 0) net.depth (net.holds l lost.there) in
     let does = loses (contents net.lanes) l (size_of (read_front (held net.lanes l))) lost.there step.fits in
     record { lost = lost; step = step; answer = does.0; after = does.1 }
 
@@ -94,5 +92,5 @@ drop_net net l now accepts listed is =
 pub head_net : (net : PacketNetwork) (l : ℕ) → l < net.lanes.count
     → option_map (λ p. p.message) (read_front (held net.lanes l)) ≡ oldest (traffic_of net) l
 head_net net l there =
-    head_said l (held net.lanes l) (packs_of l _ _ _ (net.holds l there))
+    head_said l (held net.lanes l) _ _ (net.holds l there)
     ∙ sym (cond-true (ltb l net.lanes.count) (slice_get (said (held net.lanes l)) 0) None (lt-ltb l net.lanes.count there))

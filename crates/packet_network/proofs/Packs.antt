@@ -1,5 +1,5 @@
 -- Messages that are packed into words are what a reader finds there.
-use Rattle.std.proofs.Common.{◌≡◌, ℕ, ◌*◌, ◌≤◌, Bool, true, false, cond, eqb, leb, List, [], ◌∷◌, ◌++◌, length, Some, None, Option, sym, refl, ap, ◌∙◌, arith}
+use Rattle.std.proofs.Common.{◌≡◌, ℕ, ◌*◌, ◌≤◌, Bool, true, false, cond, eqb, leb, List, [], ◌∷◌, ◌++◌, length, map, Some, None, Option, sym, refl, ap, ◌∙◌, arith}
 use Rattle.std.proofs.lemmas.List.{append_assoc, append-nil, length-append}
 use Rattle.std.proofs.lemmas.Bool.{and_from, and_parts, le-leb}
 use Rattle.message.specs.declared.Message.{Message}
@@ -12,7 +12,7 @@ use Rattle.packet.specs.Layout.{header, packet_words, source_fits, value_words, 
 use Rattle.packet.specs.Streams.{Walk, all_sendable, stream}
 use Rattle.packet.specs.Writing.{sendable, sendable_as}
 use Rattle.packet_network.specs.Holds.{Packed}
-use Rattle.packet_network.specs.Packets.{messages, packet_in, packets_in, said, source_as}
+use Rattle.packet_network.specs.Packets.{packet_in, packets_in, said, source_as}
 
 -- A well-formed message can be sent in every lane.
 source_good : (home : Bool) (l : ℕ) → l ≤ 63 → cond home (leb (cond home l 64) 63) (eqb (cond home l 64) 64) ≡ true
@@ -63,27 +63,28 @@ sendable_push l (k ∷ ms) m all one =
     and_from (sendable (packet_in l k)) (all_sendable (packets_in l (ms ++ m ∷ []))) parts.0 (sendable_push l ms m parts.1 one)
 
 -- Packed messages are found again.
-unpacked : (l : ℕ) (ms : List Message) → messages (packets_in l ms) ≡ ms
+unpacked : (l : ℕ) (ms : List Message) → map (λ (p : Packet). p.message) (packets_in l ms) ≡ ms
 unpacked l [] = refl
 unpacked l (m ∷ ms) = ap (λ (rest : List Message). m ∷ rest) (unpacked l ms)
 
 pub said_again : (l : ℕ) (ms : List Message) → all_sendable (packets_in l ms) ≡ true → said (stream (packets_in l ms)) ≡ ms
 unfolding said
-said_again l ms all = ap (λ (w : Walk). messages w.packets) (streams_read_back (packets_in l ms) all) ∙ unpacked l ms
+said_again l ms all = ap (λ (w : Walk). map (λ (p : Packet). p.message) w.packets) (streams_read_back (packets_in l ms) all) ∙ unpacked l ms
 
--- Words that are the packets of the messages that they say.
-pub record Packs (l : ℕ) (words : List ℕ) : Type 0 where
-  pub whole : stream (packets_in l (said words)) ≡ words
-  pub sendable : all_sendable (packets_in l (said words)) ≡ true
+-- Words that are the packets of messages say them.
+pub packed_as : (l : ℕ) (words : List ℕ) (ms : List Message) (count depth : ℕ) → words ≡ stream (packets_in l ms) → all_sendable (packets_in l ms) ≡ true
+    → length ms ≡ count → count ≤ depth → Packed l words count depth × (said words ≡ ms)
+packed_as l words ms count depth is all many few =
+    let says : said words ≡ ms = ap said is ∙ said_again l ms all in (
+      record {
+        whole = ap (λ (ns : List Message). stream (packets_in l ns)) says ∙ sym is;
+        sendable = ap (λ (ns : List Message). all_sendable (packets_in l ns)) says ∙ all;
+        counted = ap length says ∙ many;
+        within = few;
+      },
+      says,
+    )
 
-pub packs_of : (l : ℕ) (words : List ℕ) (count depth : ℕ) → Packed l words count depth → Packs l words
-packs_of l words count depth packed = record { whole = packed.whole; sendable = packed.sendable }
-
-pub packs : (l : ℕ) (words : List ℕ) (ms : List Message) → words ≡ stream (packets_in l ms) → all_sendable (packets_in l ms) ≡ true
-    → Packs l words × (said words ≡ ms)
-packs l words ms is all =
-    let says : said words ≡ ms = ap said is ∙ said_again l ms all in
-    (record { whole = ap (λ (ns : List Message). stream (packets_in l ns)) says ∙ sym is; sendable = ap (λ (ns : List Message). all_sendable (packets_in l ns)) says ∙ all }, says)
-
-pub packs_length : (l : ℕ) (words : List ℕ) → Packs l words → length words ≤ 4 * length (said words)
-packs_length l words packed = let whole = ap length packed.whole in let few = length_stream l (said words) in omega arith
+pub length_packed : (l : ℕ) (words : List ℕ) (count depth : ℕ) → Packed l words count depth → length words ≤ 4 * count
+length_packed l words count depth packed =
+    let whole = ap length packed.whole in let few = length_stream l (said words) in omega (arith, packed.counted)

@@ -13,7 +13,7 @@ use Rattle.packet.specs.Streams.{stream}
 use Rattle.packet_network.specs.Holds.{Packed}
 use Rattle.packet_network.specs.Packets.{packet_in, packets_in, read_front, said, size_of}
 use Rattle.packet_network.proofs.Fronts.{oldest_fits, oldest_gone}
-use Rattle.packet_network.proofs.Packs.{few_words, packet_sendable, packs, packs_length, packs_of, sendable_push, stream_push}
+use Rattle.packet_network.proofs.Packs.{few_words, length_packed, packed_as, packet_sendable, sendable_push, stream_push}
 
 -- A lane that is there takes words for which there is room, and lets go of those that wait.
 pub takes : (t : Contents ℕ) (l : ℕ) (words : List ℕ) → l < t.count → length (t.held l) + length words ≤ t.size
@@ -38,22 +38,15 @@ pub record Put (l : ℕ) (words : List ℕ) (count depth : ℕ) (m : Message) : 
 
 pub put_step : (l : ℕ) (words : List ℕ) (count depth : ℕ) (m : Message) → Packed l words count depth → l < 64 → well_formed m ≡ true → count < depth → Put l words count depth m
 put_step l words count depth m packed there formed room =
-    let small : l ≤ 63 = omega arith in
     let new : List ℕ = packet_words (packet_in l m) in
-    let short = packs_length l words (packs_of l words count depth packed) in
+    let short = length_packed l words count depth packed in
     let four = few_words (packet_in l m) in
     let is : words ++ new ≡ stream (packets_in l (said words ++ m ∷ [])) =
     ap (λ (ws : List ℕ). ws ++ new) (sym packed.whole) ∙ sym (stream_push l (said words) m) in
-    let now = packs l (words ++ new) (said words ++ m ∷ []) is (sendable_push l (said words) m packed.sendable (packet_sendable l m small formed)) in
-    record {
-      fits = omega (arith, packed.counted);
-      packed = record { whole = now.0.whole; sendable = now.0.sendable; counted = ap length now.1 ∙ length_push (said words) m ∙ ap (λ (n : ℕ). n + 1) packed.counted; within = omega arith };
-      says = now.1;
-    }
-
-length_later : (ms : List Message) (n : ℕ) → length ms ≡ n → 1 ≤ n → length (later ms) ≡ n - 1
-length_later [] n is some = absurd (omega arith)
-length_later (m ∷ ms) n is some = omega arith
+    let now = packed_as l (words ++ new) (said words ++ m ∷ []) (count + 1) depth is
+    (sendable_push l (said words) m packed.sendable (packet_sendable l m (omega arith) formed))
+    (length_push (said words) m ∙ ap (λ (n : ℕ). n + 1) packed.counted) (omega arith) in
+    record { fits = omega arith; packed = now.0; says = now.1 }
 
 -- One message less: its words wait, and the lane is packed without them.
 pub record Drop (l : ℕ) (words : List ℕ) (count depth : ℕ) : Type 0 where
@@ -61,13 +54,7 @@ pub record Drop (l : ℕ) (words : List ℕ) (count depth : ℕ) : Type 0 where
   pub packed : Packed l (drop (size_of (read_front words)) words) (count - 1) depth
   pub says : said (drop (size_of (read_front words)) words) ≡ later (said words)
 
-pub drop_step : (l : ℕ) (words : List ℕ) (count depth : ℕ) → Packed l words count depth → 1 ≤ count → Drop l words count depth
-drop_step l words count depth packed some =
-    let packs = packs_of l words count depth packed in
-    let now = oldest_gone l words packs in
-    let few = packed.within in
-    record {
-      fits = oldest_fits l words packs;
-      packed = record { whole = now.0.whole; sendable = now.0.sendable; counted = ap length now.1 ∙ length_later (said words) count packed.counted some; within = omega arith };
-      says = now.1;
-    }
+pub drop_step : (l : ℕ) (words : List ℕ) (count depth : ℕ) → Packed l words count depth → Drop l words count depth
+drop_step l words count depth packed =
+    let now = oldest_gone l words count depth packed in
+    record { fits = oldest_fits l words count depth packed; packed = now.0; says = now.1 }

@@ -1,5 +1,5 @@
 -- The messages of a lane as packets, one after another, and back.
-use Rattle.std.specs.Prelude.{ℕ, cond, List, [], ◌∷◌, length, Some, None, Option, slice_index}
+use Rattle.std.specs.Prelude.{ℕ, cond, List, [], ◌∷◌, length, map, Some, None, Option, slice_index}
 use Rattle.std.specs.Option.{option_map_or}
 use Rattle.std.specs.Result.{result_ok}
 use Rattle.message.specs.declared.Message.{Message}
@@ -21,17 +21,11 @@ packet_in l m = record { source = source_as (kind_of m.opcode) l; message = m }
 
 -- The packets of messages in a lane.
 abbrev pub packets_in : ℕ → List Message → List Packet
-packets_in l [] = []
-packets_in l (m ∷ ms) = packet_in l m ∷ packets_in l ms
-
--- What packets say.
-abbrev pub messages : List Packet → List Message
-messages [] = []
-messages (p ∷ ps) = p.message ∷ messages ps
+packets_in l ms = map (packet_in l) ms
 
 -- The messages that a reader finds in words.
 unfoldable pub said : List ℕ → List Message
-said words = messages (walk words).packets
+said words = map (λ p. p.message) (walk words).packets
 
 -- The first four words, with 0 for those that are not there.
 abbrev pub front : List ℕ → List ℕ

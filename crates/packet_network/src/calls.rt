@@ -37,7 +37,7 @@ impl<'a> PacketNetwork<'a> {
         lanes: usize,
         depth: usize,
     ) -> Result<PacketNetwork<'a>, Refusal>
-        ensures answer { MatchResult result (λ net. check_answer lanes depth (4 * depth) (length words.old) ≡ Ok tt) (λ refusal. check_answer lanes depth (4 * depth) (length words.old) ≡ Err refusal) }
+        ensures answer { let checked = check_answer lanes depth (4 * depth) (length words.old) in MatchResult result (λ net. checked ≡ Ok tt) (λ refusal. checked ≡ Err refusal) }
         ensures traffic { IfOk result (λ net. traffic_of net ≡ no_traffic lanes depth) }
         ensures lender { IfOk result (λ net. net.lanes.slots.ghost_name ≡ words.entry.ghost_name) }
     {

@@ -34,7 +34,7 @@ impl<'a> SlotNetwork<'a> {
         lanes: usize,
         depth: usize,
     ) -> Result<SlotNetwork<'a>, Refusal>
-        ensures answer { MatchResult result (λ net. check_answer lanes depth depth (length slots.old) ≡ Ok tt) (λ refusal. check_answer lanes depth depth (length slots.old) ≡ Err refusal) }
+        ensures answer { let checked = check_answer lanes depth depth (length slots.old) in MatchResult result (λ net. checked ≡ Ok tt) (λ refusal. checked ≡ Err refusal) }
         ensures traffic { IfOk result (λ net. traffic_of net ≡ no_traffic lanes depth) }
         ensures lender { IfOk result (λ net. net.lanes.slots.ghost_name ≡ slots.entry.ghost_name) }
     {
