@@ -3,7 +3,7 @@ use crate::maps::map;
 use directory::Directory;
 use full_map::FullMap;
 use message::Refusal;
-use pointers::{Pointers, worked_example};
+use pointers::{Placed, Pointers, Row, worked_example};
 use std::process::Abort;
 use std::test::Fail;
 
@@ -49,9 +49,11 @@ fn what_is_not_served_is_turned_away(rt: HostRuntime) -> Result<(), Fail> {
 
 #[test]
 fn a_row_spills(rt: HostRuntime) -> Result<(), Fail> {
-    let placed = worked_example();
-    assert_eq!(rt; placed.row.numbers, [9, 64, 64, 64]);
-    assert_eq!(rt; placed.below, Some([0, 1, 2, 3]));
+    let row = Row {
+        numbers: [9, 64, 64, 64],
+    };
+    let below = Some([0, 1, 2, 3]);
+    assert_eq!(rt; worked_example(), Placed { row, below });
     let mut layered = Pointers::new(map(1, 10)?);
     for t in [0, 1, 2, 3, 9] {
         assert_eq!(rt; layered.add(0, t), Ok(()));

@@ -1,5 +1,5 @@
 -- The union of some pointers and the holders below, at one record.
-use Rattle.std.proofs.Common.{◌≡◌, ℕ, ◌+◌, ◌<◌, ◌≤◌, Bool, true, false, not, ◌&&◌, ◌||◌, ◌++◌, eqb, nat_lt, nat_le, filter, length, List, [], ◌∷◌, Some, None, Option, min, sym, refl, ap, ◌∙◌, ◌⊎◌, inl, inr, ⊎_elim, arith}
+use Rattle.std.proofs.Common.{◌≡◌, ℕ, ◌+◌, ◌<◌, ◌≤◌, Bool, true, false, not, ◌&&◌, ◌||◌, ◌++◌, eqb, nat_lt, nat_le, filter, length, List, [], ◌∷◌, Some, None, Option, min, sym, refl, ap, ◌∙◌, ◌⊎◌, inl, inr, arith}
 use Rattle.std.proofs.Math.Path.{fun_ext}
 use Rattle.std.specs.List.{reduce, fold}
 use Rattle.std.specs.Option.{option_to_list}
@@ -20,14 +20,14 @@ union v xs r u = pointed v xs r u || v.holders r u
 union_unserved : (v : View) (xs : List ℕ) (r : ℕ) → v.records ≤ r → union v xs r ≡ v.holders r
 union_unserved v xs r h = fun_ext (λ u. grind (arith, nat_tests))
 
-pub union_none : (v : View) (r : ℕ) → union v [] r ≡ v.holders r
+union_none : (v : View) (r : ℕ) → union v [] r ≡ v.holders r
 union_none v r = fun_ext (λ u. grind (arith, nat_tests))
 
 -- one pointer more: where it is served it joins, and else, or where it is a holder below, nothing changes
-pub union_joins : (v : View) (x : ℕ) (xs : List ℕ) (r : ℕ) → r < v.records → x < v.terminals → union v (x ∷ xs) r ≡ (λ u. eqb u x || union v xs r u)
+union_joins : (v : View) (x : ℕ) (xs : List ℕ) (r : ℕ) → r < v.records → x < v.terminals → union v (x ∷ xs) r ≡ (λ u. eqb u x || union v xs r u)
 union_joins v x xs r h k = fun_ext (λ u. grind (arith, nat_tests))
 
-pub union_stays : (v : View) (x : ℕ) (xs : List ℕ) (r : ℕ) → (v.terminals ≤ x) ⊎ (v.holders r x ≡ true) → union v (x ∷ xs) r ≡ union v xs r
+union_stays : (v : View) (x : ℕ) (xs : List ℕ) (r : ℕ) → (v.terminals ≤ x) ⊎ (v.holders r x ≡ true) → union v (x ∷ xs) r ≡ union v xs r
 union_stays v x xs r e = fun_ext (λ u. grind (arith, nat_tests))
 
 -- whether a number is that of a terminal that is no holder below
@@ -52,19 +52,17 @@ count_union v (x ∷ xs) r h m a = by (cases_lt x v.terminals) (cases_Bool (v.ho
       let one = ap (λ (p : ℕ → Bool). tally p 64) (union_joins v x xs r h k) ∙ tally_more (union v xs r) x 64 (omega arith) new in
       grind (arith, nat_tests)
 
--- how many holders there are
+-- how many holders there are: those below and the fresh pointers
 pub count_over : (rows : List Row) (v : View) (r : ℕ) → v.terminals ≤ 64 → apart (row_of rows r).numbers ≡ true
     → count (over rows v) r ≡ count v r + length (filter (fresh v r) (served_row rows v r).numbers)
-count_over rows v r m a = ⊎_elim inside outside (cases_lt r v.records) where
-  inside : r < v.records → count (over rows v) r ≡ count v r + length (filter (fresh v r) (served_row rows v r).numbers)
-  inside h = rw (lt-ltb r v.records h) (count_union v (row_of rows r).numbers r h m a)
-
-  outside : v.records ≤ r → count (over rows v) r ≡ count v r + length (filter (fresh v r) (served_row rows v r).numbers)
-  outside h =
+count_over rows v r m a = by (cases_lt r v.records) where
+  by : (r < v.records) ⊎ (v.records ≤ r) → count (over rows v) r ≡ count v r + length (filter (fresh v r) (served_row rows v r).numbers)
+  by (inl h) = rw (lt-ltb r v.records h) (count_union v (row_of rows r).numbers r h m a)
+  by (inr h) =
       let same = ap (λ (p : ℕ → Bool). tally p 64) (union_unserved v (row_of rows r).numbers r h) in
       rw (le-ltb r v.records h) (grind (arith, nat_tests))
 
--- the least of them from t on
+-- the least of a list with one number more
 fold_min : (x y : ℕ) (xs : List ℕ) → fold min (min x y) xs ≡ min x (fold min y xs)
 fold_min x y [] = refl
 fold_min x y (z ∷ xs) = let e : min (min x y) z ≡ min x (min y z) = omega arith in ap (λ m. fold min m xs) e ∙ fold_min x (min y z) xs
@@ -73,6 +71,7 @@ min_cons : (x : ℕ) (xs : List ℕ) → reduce min (x ∷ xs) ≡ lesser (reduc
 min_cons x [] = refl
 min_cons x (y ∷ xs) = let e = fold_min x y xs in grind (arith, nat_tests)
 
+-- and of one number alone
 alone : (o : Option ℕ) → reduce min (option_to_list o) ≡ o
 alone None = refl
 alone (Some x) = refl
@@ -98,14 +97,13 @@ next_union v (x ∷ xs) r t h m = by (cases_lt x v.terminals) (cases_lt x t) (ne
       let new : chosen (x ∷ xs) ≡ x ∷ chosen xs = grind (arith, nat_tests) in
       ap (reduce min) new ∙ min_cons x (chosen xs) ∙ ap (λ o. lesser o x) more ∙ sym (ap (λ (p : ℕ → Bool). least p t 64) (union_joins v x xs r h k) ∙ least_more (union v xs r) t 64 x l (omega arith))
 
+-- the least holder from t on is that of the pointers and the one below
 pub next_over : (rows : List Row) (v : View) (r t : ℕ) → v.terminals ≤ 64
     → next (over rows v) r t ≡ reduce min (filter (from v t) (served_row rows v r).numbers ++ option_to_list (next v r t))
-next_over rows v r t m = ⊎_elim inside outside (cases_lt r v.records) where
-  inside : r < v.records → next (over rows v) r t ≡ reduce min (filter (from v t) (served_row rows v r).numbers ++ option_to_list (next v r t))
-  inside h = rw (lt-ltb r v.records h) (sym (next_union v (row_of rows r).numbers r t h m))
-
-  outside : v.records ≤ r → next (over rows v) r t ≡ reduce min (filter (from v t) (served_row rows v r).numbers ++ option_to_list (next v r t))
-  outside h =
+next_over rows v r t m = by (cases_lt r v.records) where
+  by : (r < v.records) ⊎ (v.records ≤ r) → next (over rows v) r t ≡ reduce min (filter (from v t) (served_row rows v r).numbers ++ option_to_list (next v r t))
+  by (inl h) = rw (lt-ltb r v.records h) (sym (next_union v (row_of rows r).numbers r t h m))
+  by (inr h) =
       let same = ap (λ (p : ℕ → Bool). least p t 64) (union_unserved v (row_of rows r).numbers r h) in
       let none : filter (from v t) free_row.numbers ≡ [] = grind (arith, nat_tests) in
       rw (le-ltb r v.records h) (rw none (same ∙ sym (alone (next v r t))))

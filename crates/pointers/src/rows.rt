@@ -7,13 +7,13 @@ const FREE: usize = 64;
 
 /// Four holder numbers. A place is free where its number is 64, which is that of no terminal; each place is freed and
 /// taken by itself.
-#[derive(Clone, Copy)]
+#[derive(Clone, Copy, PartialEq, Eq, Debug)]
 pub struct Row {
     pub numbers: [usize; 4],
 }
 
 /// What becomes of a row when a holder is placed: the row, and the numbers that make way and go below.
-#[derive(Clone, Copy)]
+#[derive(Clone, Copy, PartialEq, Eq, Debug)]
 pub struct Placed {
     pub row: Row,
     pub below: Option<[usize; 4]>,

@@ -19,7 +19,7 @@ returns g c =
     let t = c.args.t in
     let w : Row = served_row p.table.rows v r in
     let least : c.min.result ≡ reduce min (filter (from v t) w.numbers ++ option_to_list (next v r t)) =
-    sym (option_map_id c.min.result) ∙ min_from_yields_List {v = λ x. x} _ _ c.min.ensures.ran (YieldsList-from_chain
+    sym (option_map_id c.min.result) ∙ min_from_yields_List {v = λ x. x} c.chain.result c.min.result c.min.ensures.ran (YieldsList-from_chain
     (YieldsList-at c.chain.ensures.first (YieldsList-from_filter _ (from v t) (YieldsList-at c.filter.ensures.source (YieldsList-from_copied (YieldsList-from_slice w.numbers (cc)))) c.filter.ensures.closure (λ x b k h. search (rules, tests))))
     (YieldsList-from_once (next v r t) (c.chain.ensures.second.0 ∙ c.next.ensures.answer)) c.chain.ensures.first_done c.chain.ensures.second_done) in
     record { answer = least ∙ sym (next_over p.table.rows v r t s.most_terminals) }
