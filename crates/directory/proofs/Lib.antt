@@ -1,3 +1,2 @@
 pub mod Counting
 pub mod Finding
-pub mod Adding

@@ -1,5 +1,5 @@
 -- Sets of numbers, each given by a test: how many members, and which is the least.
-use Rattle.std.specs.Prelude.{ℕ, zero, suc, ◌+◌, Bool, cond, Some, None, Option, nat_lt}
+use Rattle.std.specs.Prelude.{ℕ, zero, suc, ◌+◌, Bool, cond, Some, None, Option}
 
 -- How many of the numbers below n are members.
 unfoldable pub tally : (ℕ → Bool) → ℕ → ℕ
@@ -10,8 +10,3 @@ tally member (suc n) = cond (member 0) 1 0 + tally (λ i. member (suc i)) n
 unfoldable pub least : (ℕ → Bool) → ℕ → ℕ → Option ℕ
 least member t zero = None
 least member t (suc n) = cond (member t) (Some t) (least member (t + 1) n)
-
--- The lesser of a member, if there is one, and another.
-abbrev pub lesser : Option ℕ → ℕ → Option ℕ
-lesser None u = Some u
-lesser (Some v) u = cond (nat_lt u v) (Some u) (Some v)

@@ -19,7 +19,7 @@ pub fn hand_over<D: Directory>(d: &mut D, r: usize, t: usize) -> Result<(), Refu
     if t >= d.terminals() {
         return Err(Refusal::NoSuchTerminal);
     }
-    let _ = d.clear(r);
+    d.clear(r)?;
     d.add(r, t)
 }
 

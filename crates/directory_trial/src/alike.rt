@@ -1,6 +1,6 @@
 // The same calls, random to look at, on a full map and on pointers over a full map.
+use crate::maps::map;
 use directory::Directory;
-use full_map::FullMap;
 use message::code_of;
 use pointers::Pointers;
 use std::test::Fail;
@@ -19,25 +19,15 @@ fn answer<D: Directory>(d: &mut D, call: u64) -> u64 {
         0 => u64::from(code_of(&d.clear(r))),
         1..=10 => u64::from(d.holds(r, t)),
         11..=20 => d.count(r) as u64,
-        21..=30 => match d.next(r, t) {
-            Some(u) => u as u64,
-            None => 64,
-        },
+        21..=30 => d.next(r, t).map_or(64, |u| u as u64),
         _ => u64::from(code_of(&d.add(r, t))),
-    }
-}
-
-fn map() -> Result<FullMap, Fail> {
-    match FullMap::new(4, 64) {
-        Ok(map) => Ok(map),
-        Err(_) => Err(Fail::new("sizes")),
     }
 }
 
 #[test]
 fn both_makes_answer_alike(rt: HostRuntime) -> Result<(), Fail> {
-    let mut full = map()?;
-    let mut layered = Pointers::new(map()?);
+    let mut full = map(4, 64)?;
+    let mut layered = Pointers::new(map(4, 64)?);
     let mut seed = 1;
     for _ in 0..2000 {
         seed = following(seed);
@@ -49,8 +39,8 @@ fn both_makes_answer_alike(rt: HostRuntime) -> Result<(), Fail> {
 
 #[test]
 fn both_makes_end_with_the_same_holders(rt: HostRuntime) -> Result<(), Fail> {
-    let mut full = map()?;
-    let mut layered = Pointers::new(map()?);
+    let mut full = map(4, 64)?;
+    let mut layered = Pointers::new(map(4, 64)?);
     let mut seed = 2;
     for _ in 0..200 {
         seed = following(seed);
@@ -62,7 +52,7 @@ fn both_makes_end_with_the_same_holders(rt: HostRuntime) -> Result<(), Fail> {
         assert_eq!(rt; full.count(r), layered.count(r));
         for t in 0..66 {
             assert_eq!(rt; full.holds(r, t), layered.holds(r, t));
-            assert!(rt; full.next(r, t) == layered.next(r, t));
+            assert_eq!(rt; full.next(r, t), layered.next(r, t));
         }
     }
     assert!(rt; full.count(0) > 4);

@@ -7,3 +7,5 @@
 mod alike;
 #[cfg(test)]
 mod edges;
+#[cfg(test)]
+mod maps;

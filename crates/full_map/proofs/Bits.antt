@@ -1,5 +1,5 @@
 -- What shifts, masks and counts say of the bits of a word.
-use Rattle.std.specs.Prelude.{◌≡◌, ◌≢◌, ℕ, zero, suc, ◌+◌, ◌-◌, ◌*◌, ◌/◌, ◌%◌, ◌^◌, ◌<◌, ◌≤◌, Bool, cond, ◌||◌, Some, None, Option, IfSome, is_some, not, ◌==◌, bit_and, bit_or, count_ones}
+use Rattle.std.specs.Prelude.{◌≡◌, ◌≢◌, ℕ, zero, suc, ◌+◌, ◌-◌, ◌*◌, ◌/◌, ◌%◌, ◌^◌, ◌<◌, ◌≤◌, Bool, cond, ◌||◌, Some, None, Option, IfSome, is_some, not, ◌==◌, ◌&&◌, false, nat_le, bit_and, bit_or, count_ones}
 use Rattle.std.proofs.Common.{sym, ◌∙◌, ap, ap₂, ⊎_elim, arith}
 use Rattle.std.proofs.Math.Path.{fun_ext}
 use Rattle.std.proofs.Math.Pow.{pow-lt}
@@ -8,10 +8,10 @@ use Rattle.std.specs.Int.Bits.{and_le_l}
 use Rattle.std.specs.Int.Count.{ones_step}
 use Rattle.std.proofs.lemmas.Nat.{ones-le, or_lt, one_shl}
 use Rattle.std.proofs.lemmas.Nat.Bits.{bit_at_lowest, bit_at-suc, bit_at-lt, bit_at_and, bit_at-zero, bit_at_set_same, bit_at_set_other, bit_at_above, bit_at_mask_inside, bit_at_mask_below, bit_at-trailing_zeros, ones_shl}
-use Rattle.std.proofs.lemmas.Bool.{cases_eq, cases_lt}
+use Rattle.std.proofs.lemmas.Bool.{cases_eq}
 use Rattle.std.proofs.lemmas.Bool.Decides.{nat_tests}
 use Rattle.directory.specs.Sets.{tally, least}
-use Rattle.directory.proofs.Finding.{least_none, least_some}
+use Rattle.directory.proofs.Finding.{least_is}
 use Rattle.full_map.specs.Words.{bit}
 
 -- `w | 1 << t`: bit t is set, and the others stay
@@ -38,39 +38,26 @@ abbrev from : ℕ → ℕ
 from t = (2 ^ 64 - 1) * 2 ^ t % 2 ^ 64
 
 -- the bits below t go, and the others stay
-bit_below : (w t u : ℕ) → t < 64 → u < t → bit_at (bit_and w (from t)) u ≡ 0
-bit_below w t u h k =
-    ap (λ (m : ℕ). bit_at (bit_and w m) u) (ones_shl 64 t (omega arith)) ∙ bit_at_and w (2 ^ 64 - 2 ^ t) u
-    ∙ omega (arith, bit_at_mask_below t 64 u k)
-
-bit_from : (w t u : ℕ) → t ≤ u → u < 64 → bit_at (bit_and w (from t)) u ≡ bit_at w u
-bit_from w t u h k =
-    ap (λ (m : ℕ). bit_at (bit_and w m) u) (ones_shl 64 t (omega arith)) ∙ bit_at_and w (2 ^ 64 - 2 ^ t) u
-    ∙ omega (arith, bit_at_mask_inside t 64 u h k, bit_at-lt w u)
+masked : (w t u : ℕ) → t < 64 → w < 2 ^ 64 → bit (bit_and w (from t)) u ≡ (nat_le t u && bit w u)
+masked w t u h l =
+    let e = ap (λ (m : ℕ). bit_at (bit_and w m) u) (ones_shl 64 t (omega arith)) ∙ bit_at_and w (2 ^ 64 - 2 ^ t) u in
+    let digit = bit_at-lt w u in
+    let below = bit_at_mask_below t 64 u in
+    let inside = bit_at_mask_inside t 64 u in
+    let above = bit_at_above w 64 u l in
+    grind (arith, nat_tests)
 
 -- the lowest bit that is left is the least at or above t
 pub next_from : (w t : ℕ) (o : Option ℕ) → t < 64 → w < 2 ^ 64 → is_some o ≡ not (bit_and w (from t) == 0)
     → IfSome o (λ z. z ≡ trailing_zeros w64 (bit_and w (from t))) → o ≡ least (bit w) t 64
-next_from w t None h l e f = sym (least_none (bit w) t 64 (λ u k _. ap (λ (d : ℕ). d == 1) (⊎_elim (inside u k) (bit_at_above w 64 u l) (cases_lt u 64)))) where
-  none : bit_and w (from t) ≡ 0
-  none = grind (arith, nat_tests)
-
-  inside : (u : ℕ) → t ≤ u → u < 64 → bit_at w u ≡ 0
-  inside u k i = sym (bit_from w t u k i) ∙ ap (λ (m : ℕ). bit_at m u) none ∙ bit_at-zero u
+next_from w t None h l e f =
+    let none : bit_and w (from t) ≡ 0 = grind (arith, nat_tests) in
+    sym (least_is (bit w) t 64 None (λ u k _.
+    let clear : bit (bit_and w (from t)) u ≡ false = ap (λ (m : ℕ). bit m u) none ∙ ap (λ (d : ℕ). d == 1) (bit_at-zero u) in
+    let same = masked w t u h l in
+    grind (arith, nat_tests)))
 next_from w t (Some x) h l e f =
-    ap Some f ∙ sym (least_some (bit w) t 64 z high (omega (arith, set.0)) (ap (λ (d : ℕ). d == 1) (sym (bit_from w t z high set.0) ∙ set.1))
-    (λ v i j. ap (λ (d : ℕ). d == 1) (sym (bit_from w t v i (omega (arith, set.0))) ∙ set.2 v j))) where
-      m : ℕ
-      m = bit_and w (from t)
-
-      z : ℕ
-      z = trailing_zeros w64 m
-
-      some : 0 < m
-      some = grind (arith, nat_tests)
-
-      set : (z < 64) × (bit_at m z ≡ 1) × ((i : ℕ) → i < z → bit_at m i ≡ 0)
-      set = bit_at-trailing_zeros w64 m some (omega (arith, and_le_l w (from t)))
-
-      high : t ≤ z
-      high = ⊎_elim (λ (k : z < t). absurd (cc (sym set.1 ∙ bit_below w t z h k))) (λ k. k) (cases_lt z t)
+    let some : 0 < bit_and w (from t) = grind (arith, nat_tests) in
+    let set = bit_at-trailing_zeros w64 (bit_and w (from t)) some (omega (arith, and_le_l w (from t))) in
+    let at = masked w t x h l in
+    sym (least_is (bit w) t 64 (Some x) (grind (arith, nat_tests), omega arith, grind (arith, nat_tests), λ u k i. let same = masked w t u h l in let clear = set.2 u in grind (arith, nat_tests)))

@@ -1,6 +1,4 @@
-pub mod Lists
-pub mod Places
 pub mod Unions
+pub mod Places
 pub mod Sinking
-pub mod Stores
-pub mod Example
+pub mod Placing

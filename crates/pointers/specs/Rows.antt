@@ -1,6 +1,6 @@
 -- Rows of pointers: four places, each with a holder number or free.
-use Rattle.std.specs.Prelude.{ℕ, Bool, true, false, not, ◌&&◌, ◌||◌, List, [], ◌∷◌, replicate, Some, None, Option, ◌==◌, nat_eq, slice_index, slice_index_or, slice_set}
-use Rattle.directory.specs.Sets.{least}
+use Rattle.std.specs.Prelude.{ℕ, Bool, true, not, ◌&&◌, ◌||◌, List, [], ◌∷◌, replicate, position, Some, None, Option, ◌==◌, slice_index_or, slice_set}
+use Rattle.std.specs.List.{list_any}
 use Rattle.pointers.specs.declared.rows.Row.{Row}
 use Rattle.pointers.specs.declared.rows.Placed.{Placed}
 
@@ -10,8 +10,7 @@ free = 64
 
 -- Whether a number is among some.
 abbrev pub has : List ℕ → ℕ → Bool
-has [] u = false
-has (x ∷ xs) u = u == x || has xs u
+has xs u = list_any (λ x. x == u) xs
 
 -- Whether no number stands twice, free places aside.
 abbrev pub apart : List ℕ → Bool
@@ -28,7 +27,7 @@ row_of rows r = slice_index_or rows r (record { numbers = [] })
 
 -- The first free place of a row, or none.
 abbrev pub free_place : Row → Option ℕ
-free_place w = least (λ i. nat_eq (slice_index w.numbers i) free) 0 4
+free_place w = position (λ x. x == free) w.numbers
 
 -- A new holder takes the free place; with none, the four make way and go below, and it takes the first.
 abbrev pub placed_at : Option ℕ → Row → ℕ → Placed

@@ -1,8 +1,7 @@
 // Pointers over another directory.
 ghost use Rattle.std.specs.Prelude.{◌≡◌, ◌<◌, false, slice_set};
-ghost use Rattle.directory.specs.Sets.{lesser};
 ghost use Rattle.pointers.specs.Rows.{row_of, has, placed};
-ghost use Rattle.pointers.specs.Layers.{layer_view, spilled, sent};
+ghost use Rattle.pointers.specs.Layers.{layer_view, served_row, spilled, sent};
 ghost use Rattle.std.proofs.Common.{rules};
 
 use crate::rows::Row;
@@ -29,6 +28,18 @@ impl<D: Directory> Pointers<D> {
         }
     }
 
+    // The row of a record, with all places free where the record is not served.
+    fn row(&self, r: usize) -> Row
+        ensures value { result
+            ≡ served_row self.now.table.rows (D.Directory.view self.now.below) r }
+    {
+        if r < self.below.records() {
+            self.table.row(r)
+        } else {
+            Row::free()
+        }
+    }
+
     // Places a new holder, and sends below what makes way for it.
     fn place(&mut self, r: usize, t: usize)
         requires within { r < 64 }
@@ -40,9 +51,8 @@ impl<D: Directory> Pointers<D> {
     {
         let placed = self.table.row(r).place(t);
         self.table.put(r, placed.row);
-        match placed.below {
-            Some(numbers) => spill(&mut self.below, r, numbers),
-            None => {}
+        if let Some(numbers) = placed.below {
+            spill(&mut self.below, r, numbers);
         }
     }
 }
@@ -51,19 +61,8 @@ impl<D: Directory> Pointers<D> {
 fn spill<D: Directory>(d: &mut D, r: usize, numbers: [usize; 4])
     ensures after { D.Directory.view d.new ≡ spilled (D.Directory.view d.old) r numbers }
 {
-    let _ = d.add(r, numbers[0]);
-    let _ = d.add(r, numbers[1]);
-    let _ = d.add(r, numbers[2]);
-    let _ = d.add(r, numbers[3]);
-}
-
-// The lesser of a number, if there is one, and another.
-fn lower(best: Option<usize>, u: usize) -> Option<usize>
-    ensures answer { result ≡ lesser best u }
-{
-    match best {
-        None => Some(u),
-        Some(v) => if u < v { Some(u) } else { Some(v) },
+    for n in numbers {
+        let _ = d.add(r, n);
     }
 }
 
@@ -90,56 +89,35 @@ impl<D: Directory> Directory for Pointers<D> {
     }
 
     fn clear(&mut self, r: usize) -> Result<(), Refusal> {
-        if r >= self.below.records() {
-            return Err(Refusal::NoSuchRecord);
-        }
+        self.below.clear(r)?;
         self.table.put(r, Row::free());
-        self.below.clear(r)
+        Ok(())
     }
 
     fn holds(&self, r: usize, t: usize) -> bool {
-        if r >= self.below.records() {
-            return false;
-        }
-        if t >= self.below.terminals() {
-            return false;
-        }
-        if self.table.row(r).has(t) {
-            return true;
-        }
-        self.below.holds(r, t)
+        t < self.below.terminals() && (self.row(r).has(t) || self.below.holds(r, t))
     }
 
     fn count(&self, r: usize) -> usize {
-        if r >= self.below.records() {
-            return 0;
-        }
         let terminals = self.below.terminals();
-        let row = self.table.row(r);
-        let mut n = self.below.count(r);
-        for i in 0..4 {
-            let t = row.numbers[i];
-            if t < terminals && !self.below.holds(r, t) {
-                n += 1;
-            }
-        }
-        n
+        let row = self.row(r);
+        let above = row
+            .numbers
+            .iter()
+            .filter(|&&t| t < terminals && !self.below.holds(r, t))
+            .count();
+        self.below.count(r) + above
     }
 
     fn next(&self, r: usize, t: usize) -> Option<usize> {
-        if r >= self.below.records() {
-            return None;
-        }
-        let terminals = self.below.terminals();
-        let row = self.table.row(r);
-        let mut best = self.below.next(r, t);
-        for i in 0..4 {
-            let u = row.numbers[i];
-            if t <= u && u < terminals {
-                best = lower(best, u);
-            }
-        }
-        best
+        let served = t..self.below.terminals();
+        let row = self.row(r);
+        row.numbers
+            .iter()
+            .copied()
+            .filter(|u| served.contains(u))
+            .chain(self.below.next(r, t))
+            .min()
     }
 
     fn records(&self) -> usize {

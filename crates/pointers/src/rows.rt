@@ -2,15 +2,18 @@
 ghost use Rattle.std.specs.Prelude.{◌≡◌, ◌<◌, IfSome};
 ghost use Rattle.pointers.specs.Rows.{free_row, has, free_place, placed};
 
+// The number of a free place, which is that of no terminal.
+const FREE: usize = 64;
+
 /// Four holder numbers. A place is free where its number is 64, which is that of no terminal; each place is freed and
 /// taken by itself.
-#[derive(Clone, Copy)]
+#[derive(Clone, Copy, PartialEq, Eq, Debug)]
 pub struct Row {
     pub numbers: [usize; 4],
 }
 
 /// What becomes of a row when a holder is placed: the row, and the numbers that make way and go below.
-#[derive(Clone, Copy)]
+#[derive(Clone, Copy, PartialEq, Eq, Debug)]
 pub struct Placed {
     pub row: Row,
     pub below: Option<[usize; 4]>,
@@ -21,19 +24,14 @@ impl Row {
     pub(crate) fn free() -> Row
         ensures value { result ≡ free_row }
     {
-        Row { numbers: [64; 4] }
+        Row { numbers: [FREE; 4] }
     }
 
     /// Whether a number stands in a place.
     pub(crate) fn has(self, t: usize) -> bool
         ensures answer { result ≡ has self.numbers t }
     {
-        for i in 0..4 {
-            if self.numbers[i] == t {
-                return true;
-            }
-        }
-        false
+        self.numbers.contains(&t)
     }
 
     /// The first free place, or none.
@@ -41,12 +39,7 @@ impl Row {
         ensures answer { result ≡ free_place self }
         ensures within { IfSome result (λ i. i < 4) }
     {
-        for i in 0..4 {
-            if self.numbers[i] == 64 {
-                return Some(i);
-            }
-        }
-        None
+        self.numbers.iter().position(|n| *n == FREE)
     }
 
     /// Places a new holder: it takes the first free place; with none free, the four make way and it takes the first.
@@ -64,7 +57,7 @@ impl Row {
             }
             None => Placed {
                 row: Row {
-                    numbers: [t, 64, 64, 64],
+                    numbers: [t, FREE, FREE, FREE],
                 },
                 below: Some(self.numbers),
             },

@@ -18,7 +18,7 @@ impl Table {
         ensures rows { result.rows ≡ replicate 64 free_row }
     {
         Table {
-            rows: [Row { numbers: [64; 4] }; 64],
+            rows: [Row::free(); 64],
         }
     }
 

@@ -1,4 +1,4 @@
-use Rattle.std.proofs.Common.{◌≡◌, ℕ, ◌<◌, ◌≤◌, arith, List, slice_index, sym, ap, ◌∙◌, Ok, false}
+use Rattle.std.proofs.Common.{◌≡◌, ℕ, ◌<◌, ◌≤◌, arith, List, slice_index, sym, ap, Ok, false}
 use Rattle.std.proofs.Math.Path.{fun_ext}
 use Rattle.std.proofs.lemmas.Bool.Decides.{nat_tests}
 use Rattle.std.proofs.lemmas.Grind.{common_steps}
@@ -6,7 +6,6 @@ use Rattle.directory.specs.Sets.{tally}
 use Rattle.directory.specs.Directories.{View}
 use Rattle.directory.specs.Changes.{add_answer, with_holders}
 use Rattle.directory.proofs.Counting.{tally_lt}
-use Rattle.directory.proofs.Adding.{added_accepted}
 use Rattle.full_map.specs.Maps.{map_view}
 use Rattle.full_map.specs.Words.{bit, of_words}
 use Rattle.full_map.proofs.Bits.{set_lt, bit_set}
@@ -27,7 +26,7 @@ returns c =
     let e : add_answer v r t ≡ Ok tt = accepts m.words m.records m.terminals r t (omega arith) (omega arith) (omega arith) in
     record {
       answer = sym e;
-      after = ap (with_holders v) (fun_ext (λ q. fun_ext (λ u. let a = bit_set (slice_index m.words r) t u (omega arith) in grind (arith, nat_tests, common_steps)))) ∙ sym (added_accepted v r t e);
+      after = ap (with_holders v) (fun_ext (λ q. fun_ext (λ u. let a = bit_set (slice_index m.words r) t u (omega arith) in grind (arith, nat_tests, common_steps))));
     }
 
 pub invariant_of-self : goal.invariant_of-self

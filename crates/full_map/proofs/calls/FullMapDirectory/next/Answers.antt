@@ -1,7 +1,7 @@
-use Rattle.std.proofs.Common.{rules, sym, ap, ◌∙◌, arith}
+use Rattle.std.proofs.Common.{rules, None, sym, ap, ◌∙◌, arith}
 use Rattle.std.proofs.lemmas.Option.{IfSome_then}
 use Rattle.directory.specs.Sets.{least}
-use Rattle.directory.proofs.Finding.{least_none}
+use Rattle.directory.proofs.Finding.{least_is}
 use Rattle.full_map.specs.Words.{bit}
 use Rattle.full_map.specs.Laws.{unserved_terminal}
 use Rattle.full_map.proofs.Bits.{next_from}
@@ -10,7 +10,7 @@ use Rattle.full_map.proofs.calls.FullMapDirectory.next.Goals as goal
 pub returns-then-t-self : goal.returns-then-t-self
 returns-then-t-self c =
     let m = c.args.self.now in
-    record { answer = sym (least_none _ c.args.t 64 (λ u h _. unserved_terminal m.words m.terminals c.args.r u m.narrow (omega arith))) }
+    record { answer = sym (least_is _ c.args.t 64 None (λ u h _. unserved_terminal m.words m.terminals c.args.r u m.narrow (omega arith))) }
 
 pub returns : goal.returns
 returns c = record {

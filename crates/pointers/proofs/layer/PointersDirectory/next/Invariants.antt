@@ -1,7 +1,0 @@
-use Rattle.std.proofs.Common.{◌≡◌, take}
-use Rattle.directory.specs.Sets.{least}
-use Rattle.pointers.proofs.Unions.{union}
-use Rattle.pointers.proofs.layer.PointersDirectory.next.Given as goal
-
-abbrev pub invariant-loop-i : goal.invariant-loop-i
-invariant-loop-i g l = l.best ≡ least (union (g.D.Directory.view l.self.below) (take l.i l.row.numbers) l.r) l.t 64
