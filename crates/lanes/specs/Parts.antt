@@ -1,10 +1,10 @@
 -- The parts of a slice that are lanes, and what waits in them.
 use Rattle.std.specs.Prelude.{ℕ, ◌+◌, ◌*◌, nat_lt, List, slice_index_or, Result, Ok, Err}
 use Rattle.std.specs.declared.ops.Range.{Range}
+use Rattle.std.specs.List.{between}
 use Rattle.message.specs.Checks.{given}
 use Rattle.message.specs.declared.refusals.Refusal.{Refusal}
 use Rattle.message.specs.declared.refusals.Refusal.TheVariants.{NoSuchTerminal}
-use Rattle.std.specs.List.{between}
 use Rattle.ring.specs.Waiting.{waiting}
 use Rattle.ring.specs.declared.Span.{Span}
 
@@ -18,6 +18,7 @@ part_answer count size l =
     given (nat_lt l count) (Err NoSuchTerminal)
     (Ok (record { start = l * size; end = l * size + size }))
 
+-- Where nothing lies.
 abbrev pub no_span : Span
 no_span = record { start = 0; count = 0 }
 
