@@ -13,8 +13,11 @@ zeros zero r = refl
 zeros (suc n) zero = refl
 zeros (suc n) (suc r) = zeros n r
 
-pub invariant_of-result : goal.invariant_of-result
-invariant_of-result c = record { sizes = grind (arith, nat_tests); narrow = λ r. rw (zeros 64 r) (pow_pos c.args.terminals); unused = λ r _. zeros 64 r }
+pub invariant_of-result-clause-narrow : goal.invariant_of-result-clause-narrow
+invariant_of-result-clause-narrow c = λ r. rw (zeros 64 r) (pow_pos c.args.terminals)
+
+pub invariant_of-result-clause-unused : goal.invariant_of-result-clause-unused
+invariant_of-result-clause-unused c = λ r _. zeros 64 r
 
 pub returns : goal.returns
 returns c = record { made = (grind (arith, nat_tests), ap (with_holders (empty c.args.records c.args.terminals 64)) (fun_ext (λ r. fun_ext (λ t. ap (λ w. bit w t) (zeros 64 r) ∙ ap (λ d. eqb d 1) (bit_at-zero t))))) }

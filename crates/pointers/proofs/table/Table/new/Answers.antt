@@ -9,5 +9,5 @@ once w zero r a = refl
 once w (suc n) zero a = a
 once w (suc n) (suc r) a = once w n r a
 
-pub invariant_of-result : goal.invariant_of-result
-invariant_of-result c = record { size = refl; once = λ r. once c.free.result 64 r (ap (λ (w : Row). apart w.numbers) c.free.ensures.value) }
+pub invariant_of-result-clause-once : goal.invariant_of-result-clause-once
+invariant_of-result-clause-once c = λ r. once c.free.result 64 r (ap (λ (w : Row). apart w.numbers) c.free.ensures.value)
