@@ -1,6 +1,6 @@
 -- How calls change a directory, and what they answer.
-use Rattle.std.specs.Prelude.{ℕ, cond, not, ◌&&◌, ◌||◌, ◌==◌, nat_lt, Ok, Err, is_ok}
-use Rattle.message.specs.Refusals.{Answer}
+use Rattle.std.specs.Prelude.{ℕ, cond, not, ◌&&◌, ◌||◌, ◌==◌, nat_lt, Err, is_ok}
+use Rattle.message.specs.Refusals.{Answer, accepted}
 use Rattle.message.specs.declared.refusals.Refusal.TheVariants.{NoSuchTerminal, NoSuchRecord, AtLimit}
 use Rattle.message.specs.Checks.{given}
 use Rattle.directory.specs.Directories.{Holders, View, count}
@@ -22,7 +22,7 @@ abbrev pub add_answer : View → ℕ → ℕ → Answer
 add_answer v r t =
     given (nat_lt r v.records) (Err NoSuchRecord)
     (given (nat_lt t v.terminals) (Err NoSuchTerminal)
-    (given (v.holders r t || nat_lt (count v r) v.limit) (Err AtLimit) (Ok tt)))
+    (given (v.holders r t || nat_lt (count v r) v.limit) (Err AtLimit) accepted))
 
 -- After an accepted add the terminal is a holder; a refusal changes nothing.
 abbrev pub added : View → ℕ → ℕ → View
@@ -30,7 +30,7 @@ added v r t = with_holders v (cond (is_ok (add_answer v r t)) (joined v.holders 
 
 -- Clear: the record must be served.
 abbrev pub clear_answer : View → ℕ → Answer
-clear_answer v r = given (nat_lt r v.records) (Err NoSuchRecord) (Ok tt)
+clear_answer v r = given (nat_lt r v.records) (Err NoSuchRecord) accepted
 
 -- After an accepted clear the record has no holder; a refusal changes nothing.
 abbrev pub cleared : View → ℕ → View

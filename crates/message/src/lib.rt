@@ -44,9 +44,9 @@ impl Message {
     pub fn is_well_formed(self) -> bool
         ensures { result ≡ well_formed self }
     {
-        match self.kind() {
-            Some(kind) => self.record <= 63 && (kind.carries_value() || self.value == 0),
-            None => false,
-        }
+        self.record <= 63
+            && self
+                .kind()
+                .is_some_and(|kind| kind.carries_value() || self.value == 0)
     }
 }
