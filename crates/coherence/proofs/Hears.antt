@@ -3,7 +3,7 @@ use Rattle.std.proofs.Common.{◌≡◌, ℕ, ◌+◌, Bool, true, false, cond, 
 use mathlib.Core.Option.{Option as Maybe, none}
 use Rattle.message.specs.declared.Message.{Message}
 use Rattle.message.specs.declared.refusals.Refusal.TheVariants.{Full, OutOfTurn}
-use Rattle.protocol.specs.declared.Code.TheVariants.{Accepted, Refused}
+use Rattle.protocol.specs.declared.Code.TheVariants.{Accepted}
 use Rattle.message.specs.declared.kinds.Kind.{Kind}
 use Rattle.message.specs.declared.kinds.Kind.TheVariants.{ReadRequest, WriteRequest, Replacement, Update, Acknowledgement, ReadData, WriteData, Invalidate, Busy}
 use Rattle.message.specs.Messages.{message_of}
@@ -47,8 +47,8 @@ module _ (up : Traffic) (t r v' : ℕ) where
   abbrev L : model.Place ℕ → Want → Local
   L P W = loc P W (lane up t)
 
-  six : Meets f t (refuses (Refused OutOfTurn)) (stays 6)
-  six = refused f t (Refused OutOfTurn)
+  six : Meets f t (refuses OutOfTurn) (stays 6)
+  six = refused f t OutOfTurn
 
   -- data comes: the place has the value, and waiting ends
   comes : (pl : Place) (P : model.Place ℕ) (W : Want) → place_of pl ≡ P → rests ≡ W → Meets f t (moves Accepted 0 pl Nothing f) (goes 0 none (loc P W (lane up t ++ [])))
@@ -56,33 +56,33 @@ module _ (up : Traffic) (t r v' : ℕ) where
 
   -- read data comes to an Invalid place
   read_void : (P : model.Place ℕ) (w : Wait)
-      → Meets f t (cond (waits_to_read r w) (moves Accepted 0 (place InRead r v') Nothing f) (refuses (Refused OutOfTurn))) (a_takes d r (on_data reading v' no_copy (wait_of r (want_of w))) (L P (want_of w)))
+      → Meets f t (cond (waits_to_read r w) (moves Accepted 0 (place InRead r v') Nothing f) (refuses OutOfTurn)) (a_takes d r (on_data reading v' no_copy (wait_of r (want_of w))) (L P (want_of w)))
   unfolding on_data wait_of same model.want_of model.place_of
   read_void P Nothing = six
   read_void P (ToWrite y) = pick (eqb y r)
     where
-      pick : (b : Bool) → Meets f t (refuses (Refused OutOfTurn)) (a_takes d r (on_data reading v' no_copy (cond b (waits writing) still)) (L P (wants writing y)))
+      pick : (b : Bool) → Meets f t (refuses OutOfTurn) (a_takes d r (on_data reading v' no_copy (cond b (waits writing) still)) (L P (wants writing y)))
       pick true = six
       pick false = six
   read_void P (ToRead y) = pick (eqb y r) refl
     where
-      pick : (b : Bool) → eqb y r ≡ b → Meets f t (cond b (moves Accepted 0 (place InRead r v') Nothing f) (refuses (Refused OutOfTurn))) (a_takes d r (on_data reading v' no_copy (cond b (waits reading) still)) (L P (wants reading y)))
+      pick : (b : Bool) → eqb y r ≡ b → Meets f t (cond b (moves Accepted 0 (place InRead r v') Nothing f) (refuses OutOfTurn)) (a_takes d r (on_data reading v' no_copy (cond b (waits reading) still)) (L P (wants reading y)))
       pick true e = comes (place InRead r v') (shared r v') (model.want_of r still (wants reading y)) refl (rw e refl)
       pick false e = six
 
   -- write data comes to an Invalid place, or to a Read-Only copy
   write_void : (P : model.Place ℕ) (w : Wait)
-      → Meets f t (cond (waits_to_write r w) (moves Accepted 0 (place InWrite r v') Nothing f) (refuses (Refused OutOfTurn))) (a_takes d r (on_data writing v' no_copy (wait_of r (want_of w))) (L P (want_of w)))
+      → Meets f t (cond (waits_to_write r w) (moves Accepted 0 (place InWrite r v') Nothing f) (refuses OutOfTurn)) (a_takes d r (on_data writing v' no_copy (wait_of r (want_of w))) (L P (want_of w)))
   unfolding on_data wait_of same model.want_of model.place_of
   write_void P Nothing = six
   write_void P (ToRead y) = pick (eqb y r)
     where
-      pick : (b : Bool) → Meets f t (refuses (Refused OutOfTurn)) (a_takes d r (on_data writing v' no_copy (cond b (waits reading) still)) (L P (wants reading y)))
+      pick : (b : Bool) → Meets f t (refuses OutOfTurn) (a_takes d r (on_data writing v' no_copy (cond b (waits reading) still)) (L P (wants reading y)))
       pick true = six
       pick false = six
   write_void P (ToWrite y) = pick (eqb y r) refl
     where
-      pick : (b : Bool) → eqb y r ≡ b → Meets f t (cond b (moves Accepted 0 (place InWrite r v') Nothing f) (refuses (Refused OutOfTurn))) (a_takes d r (on_data writing v' no_copy (cond b (waits writing) still)) (L P (wants writing y)))
+      pick : (b : Bool) → eqb y r ≡ b → Meets f t (cond b (moves Accepted 0 (place InWrite r v') Nothing f) (refuses OutOfTurn)) (a_takes d r (on_data writing v' no_copy (cond b (waits writing) still)) (L P (wants writing y)))
       pick true e = comes (place InWrite r v') (owned r v') (model.want_of r still (wants writing y)) refl (rw e refl)
       pick false e = six
 
@@ -109,10 +109,10 @@ module _ (up : Traffic) (t r v' : ℕ) where
   none_rw writing v (waits writing) = refl
 
   -- refused whatever the terminal waits for
-  sixes : (b : Bool) (P : model.Place ℕ) (W : Want) (o : Maybe (Took ℕ)) → o ≡ none → (c : Bool) → Meets f t (cond b (refuses (Refused OutOfTurn)) (refuses (Refused OutOfTurn))) (cond c (a_takes d r o (L P W)) (stays 6))
-  sixes b P W o e c = subst (λ (x : Maybe (Took ℕ)). Meets f t (cond b (refuses (Refused OutOfTurn)) (refuses (Refused OutOfTurn))) (cond c (a_takes d r x (L P W)) (stays 6))) (sym e) (pick b c)
+  sixes : (b : Bool) (P : model.Place ℕ) (W : Want) (o : Maybe (Took ℕ)) → o ≡ none → (c : Bool) → Meets f t (cond b (refuses OutOfTurn) (refuses OutOfTurn)) (cond c (a_takes d r o (L P W)) (stays 6))
+  sixes b P W o e c = subst (λ (x : Maybe (Took ℕ)). Meets f t (cond b (refuses OutOfTurn) (refuses OutOfTurn)) (cond c (a_takes d r x (L P W)) (stays 6))) (sym e) (pick b c)
     where
-      pick : (b c : Bool) → Meets f t (cond b (refuses (Refused OutOfTurn)) (refuses (Refused OutOfTurn))) (cond c (a_takes d r none (L P W)) (stays 6))
+      pick : (b c : Bool) → Meets f t (cond b (refuses OutOfTurn) (refuses OutOfTurn)) (cond c (a_takes d r none (L P W)) (stays 6))
       pick true true = six
       pick true false = six
       pick false true = six
@@ -123,12 +123,12 @@ module _ (up : Traffic) (t r v' : ℕ) where
   read_data_heard Invalid x v w = read_void empty w
   read_data_heard InRead x v w = pick (eqb x r)
     where
-      pick : (b : Bool) → Meets f t (cond (waits_to_read r w) (refuses (Refused OutOfTurn)) (refuses (Refused OutOfTurn))) (cond b (a_takes d r (on_data reading v' (cond b (readable v) no_copy) (wait_of r (want_of w))) (L (shared x v) (want_of w))) (stays 6))
+      pick : (b : Bool) → Meets f t (cond (waits_to_read r w) (refuses OutOfTurn) (refuses OutOfTurn)) (cond b (a_takes d r (on_data reading v' (cond b (readable v) no_copy) (wait_of r (want_of w))) (L (shared x v) (want_of w))) (stays 6))
       pick true = sixes (waits_to_read r w) (shared x v) (want_of w) (on_data reading v' (readable v) (wait_of r (want_of w))) (none_ro v (wait_of r (want_of w))) true
       pick false = sixes (waits_to_read r w) (shared x v) (want_of w) none refl false
   read_data_heard InWrite x v w = pick (eqb x r)
     where
-      pick : (b : Bool) → Meets f t (cond (waits_to_read r w) (refuses (Refused OutOfTurn)) (refuses (Refused OutOfTurn))) (cond b (a_takes d r (on_data reading v' (cond b (writable v) no_copy) (wait_of r (want_of w))) (L (owned x v) (want_of w))) (stays 6))
+      pick : (b : Bool) → Meets f t (cond (waits_to_read r w) (refuses OutOfTurn) (refuses OutOfTurn)) (cond b (a_takes d r (on_data reading v' (cond b (writable v) no_copy) (wait_of r (want_of w))) (L (owned x v) (want_of w))) (stays 6))
       pick true = sixes (waits_to_read r w) (owned x v) (want_of w) (on_data reading v' (writable v) (wait_of r (want_of w))) (none_rw reading v (wait_of r (want_of w))) true
       pick false = sixes (waits_to_read r w) (owned x v) (want_of w) none refl false
 
@@ -137,24 +137,24 @@ module _ (up : Traffic) (t r v' : ℕ) where
   write_data_heard Invalid x v w = write_void empty w
   write_data_heard InRead x v w = pick (eqb x r)
     where
-      pick : (b : Bool) → Meets f t (cond (waits_to_write r w) (cond b (moves Accepted 0 (place InWrite r v') Nothing f) (refuses (Refused OutOfTurn))) (refuses (Refused OutOfTurn))) (cond b (a_takes d r (on_data writing v' (cond b (readable v) no_copy) (wait_of r (want_of w))) (L (shared x v) (want_of w))) (stays 6))
+      pick : (b : Bool) → Meets f t (cond (waits_to_write r w) (cond b (moves Accepted 0 (place InWrite r v') Nothing f) (refuses OutOfTurn)) (refuses OutOfTurn)) (cond b (a_takes d r (on_data writing v' (cond b (readable v) no_copy) (wait_of r (want_of w))) (L (shared x v) (want_of w))) (stays 6))
       pick true =
-          subst (λ (o : Maybe (Took ℕ)). Meets f t (cond (waits_to_write r w) (moves Accepted 0 (place InWrite r v') Nothing f) (refuses (Refused OutOfTurn))) (a_takes d r o (L (shared x v) (want_of w)))) (sym (same_take v (wait_of r (want_of w)))) (write_void (shared x v) w)
+          subst (λ (o : Maybe (Took ℕ)). Meets f t (cond (waits_to_write r w) (moves Accepted 0 (place InWrite r v') Nothing f) (refuses OutOfTurn)) (a_takes d r o (L (shared x v) (want_of w)))) (sym (same_take v (wait_of r (want_of w)))) (write_void (shared x v) w)
       pick false = sixes (waits_to_write r w) (shared x v) (want_of w) none refl false
   write_data_heard InWrite x v w = pick (eqb x r)
     where
-      pick : (b : Bool) → Meets f t (cond (waits_to_write r w) (refuses (Refused OutOfTurn)) (refuses (Refused OutOfTurn))) (cond b (a_takes d r (on_data writing v' (cond b (writable v) no_copy) (wait_of r (want_of w))) (L (owned x v) (want_of w))) (stays 6))
+      pick : (b : Bool) → Meets f t (cond (waits_to_write r w) (refuses OutOfTurn) (refuses OutOfTurn)) (cond b (a_takes d r (on_data writing v' (cond b (writable v) no_copy) (wait_of r (want_of w))) (L (owned x v) (want_of w))) (stays 6))
       pick true = sixes (waits_to_write r w) (owned x v) (want_of w) (on_data writing v' (writable v) (wait_of r (want_of w))) (none_rw writing v (wait_of r (want_of w))) true
       pick false = sixes (waits_to_write r w) (owned x v) (want_of w) none refl false
 
   -- an invalidation is answered by k
   answers : (pl' : Place) (w : Wait) (m : Message) (P' : model.Place ℕ) (k : Msg ℕ) → place_of pl' ≡ P' → up_of m ≡ mail r k
-      → Meets f t (cond (has_room_for 1 up t) (moves Accepted 0 pl' w (sending.sent f t m)) (refuses (Refused Full)))
+      → Meets f t (cond (has_room_for 1 up t) (moves Accepted 0 pl' w (sending.sent f t m)) (refuses Full))
       (cond (leb (length (lane up t) + 1) d) (goes 0 none (loc P' (model.want_of r (wait_of r (want_of w)) (want_of w)) (lane up t ++ (mail r k ∷ [])))) (stays 3))
   answers pl' w m P' k e' g =
       if f t (has_room_for 1 up t) (leb (length (lane up t) + 1) d) (room up t 1)
       (sends up t Accepted pl' w m P' (model.want_of r (wait_of r (want_of w)) (want_of w)) (mail r k) e' (sym (want_stays r (want_of w))) g)
-      (refused f t (Refused Full))
+      (refused f t Full)
 
   invalidate_heard : (st : PlaceState) (x v : ℕ) (w : Wait) → Meets f t (heard Invalidate (seat st x v w up) t r v') (a_hear d r INV (here up t st x v w))
   unfolding clear copy_of same on_inv model.place_of
@@ -162,13 +162,13 @@ module _ (up : Traffic) (t r v' : ℕ) where
   invalidate_heard InRead x v w = pick (eqb x r) refl
     where
       pick : (b : Bool) → eqb x r ≡ b
-          → Meets f t (cond (has_room_for 1 up t) (moves Accepted 0 (cond b invalid (place InRead x v)) w (sending.sent f t (message_of Acknowledgement r 0))) (refuses (Refused Full))) (a_takes d r (on_inv (cond b (readable v) no_copy) (wait_of r (want_of w))) (L (shared x v) (want_of w)))
+          → Meets f t (cond (has_room_for 1 up t) (moves Accepted 0 (cond b invalid (place InRead x v)) w (sending.sent f t (message_of Acknowledgement r 0))) (refuses Full)) (a_takes d r (on_inv (cond b (readable v) no_copy) (wait_of r (want_of w))) (L (shared x v) (want_of w)))
       pick true e = answers invalid w (message_of Acknowledgement r 0) (model.place_of r no_copy (shared x v)) ACKC (rw e refl) refl
       pick false e = answers (place InRead x v) w (message_of Acknowledgement r 0) (model.place_of r no_copy (shared x v)) ACKC (rw e refl) refl
   invalidate_heard InWrite x v w = pick (eqb x r) refl
     where
       pick : (b : Bool) → eqb x r ≡ b
-          → Meets f t (cond (has_room_for 1 up t) (cond b (moves Accepted 0 invalid w (sending.sent f t (message_of Update r v))) (moves Accepted 0 (place InWrite x v) w (sending.sent f t (message_of Acknowledgement r 0)))) (refuses (Refused Full))) (a_takes d r (on_inv (cond b (writable v) no_copy) (wait_of r (want_of w))) (L (owned x v) (want_of w)))
+          → Meets f t (cond (has_room_for 1 up t) (cond b (moves Accepted 0 invalid w (sending.sent f t (message_of Update r v))) (moves Accepted 0 (place InWrite x v) w (sending.sent f t (message_of Acknowledgement r 0)))) (refuses Full)) (a_takes d r (on_inv (cond b (writable v) no_copy) (wait_of r (want_of w))) (L (owned x v) (want_of w)))
       pick true e = answers invalid w (message_of Update r v) (model.place_of r no_copy (owned x v)) (UPDATE v) (rw e refl) refl
       pick false e = answers (place InWrite x v) w (message_of Acknowledgement r 0) (model.place_of r no_copy (owned x v)) ACKC (rw e refl) refl
 
@@ -192,12 +192,12 @@ module _ (up : Traffic) (t r v' : ℕ) where
   busy_heard st x v Nothing = six
   busy_heard st x v (ToRead y) = pick (eqb y r) refl
     where
-      pick : (b : Bool) → eqb y r ≡ b → Meets f t (cond b (moves Accepted 0 (place st x v) Nothing f) (refuses (Refused OutOfTurn))) (a_takes d r (on_busy (copy_of r (place_by st x v)) (cond b (waits reading) still)) (L (place_by st x v) (wants reading y)))
+      pick : (b : Bool) → eqb y r ≡ b → Meets f t (cond b (moves Accepted 0 (place st x v) Nothing f) (refuses OutOfTurn)) (a_takes d r (on_busy (copy_of r (place_by st x v)) (cond b (waits reading) still)) (L (place_by st x v) (wants reading y)))
       pick true e = comes (place st x v) (model.place_of r (copy_of r (place_by st x v)) (place_by st x v)) (model.want_of r still (wants reading y)) (sym (place_stays (place_by st x v))) (rw e refl)
       pick false e = six
   busy_heard st x v (ToWrite y) = pick (eqb y r) refl
     where
-      pick : (b : Bool) → eqb y r ≡ b → Meets f t (cond b (moves Accepted 0 (place st x v) Nothing f) (refuses (Refused OutOfTurn))) (a_takes d r (on_busy (copy_of r (place_by st x v)) (cond b (waits writing) still)) (L (place_by st x v) (wants writing y)))
+      pick : (b : Bool) → eqb y r ≡ b → Meets f t (cond b (moves Accepted 0 (place st x v) Nothing f) (refuses OutOfTurn)) (a_takes d r (on_busy (copy_of r (place_by st x v)) (cond b (waits writing) still)) (L (place_by st x v) (wants writing y)))
       pick true e = comes (place st x v) (model.place_of r (copy_of r (place_by st x v)) (place_by st x v)) (model.want_of r still (wants writing y)) (sym (place_stays (place_by st x v))) (rw e refl)
       pick false e = six
 

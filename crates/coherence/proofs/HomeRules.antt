@@ -4,7 +4,6 @@ use mathlib.Core.Option.{Option as Maybe, none, some}
 use Rattle.message.specs.declared.Message.{Message}
 use Rattle.message.specs.Refusals.{accepted}
 use Rattle.message.specs.declared.refusals.Refusal.TheVariants.{AtLimit, Full, OutOfTurn}
-use Rattle.protocol.specs.declared.Code.TheVariants.{Refused}
 use Rattle.message.specs.declared.kinds.Kind.{Kind}
 use Rattle.message.specs.declared.kinds.Kind.TheVariants.{ReadRequest, WriteRequest, Replacement, Update, Acknowledgement, ReadData, WriteData, Invalidate, Busy}
 use Rattle.message.specs.Messages.{message_of}
@@ -48,8 +47,8 @@ abbrev pub roomy : Scene → Act ℕ → Bool
 roomy s a = room s.down.depth (lanes down_of s.down.waiting) s.terminals a.to
 
 abbrev pub Does : Scene → ℕ → Ruling → Maybe (Act ℕ) → Type 0
-Does s r o none = o ≡ refuses (Refused OutOfTurn)
-Does s r o (some a) = ((roomy s a ≡ true) × Acts s r o a) ⊎ ((roomy s a ≡ false) × (o ≡ refuses (Refused Full)))
+Does s r o none = o ≡ refuses OutOfTurn
+Does s r o (some a) = ((roomy s a ≡ true) × Acts s r o a) ⊎ ((roomy s a ≡ false) × (o ≡ refuses Full))
 
 module _ (n : ℕ) (dir : View) (down : Traffic) (n64 : n ≤ 64) (r t : ℕ) (tn : t < n) (served-record : r < dir.records) (served-terminal : t < dir.terminals) where
   abbrev sc : HomeState → ℕ → ℕ → Scene
@@ -71,10 +70,10 @@ module _ (n : ℕ) (dir : View) (down : Traffic) (n64 : n ≤ 64) (r t : ℕ) (t
   L = lanes down_of down.waiting
 
   -- a message to i alone
-  to_one : (st : HomeState) (v a : ℕ) (i : ℕ) → i < n → (o : Ruling) (x : Act ℕ) → x.to ≡ same i → Acts (sc st v a) r o x → Does (sc st v a) r (cond (has_room down i) o (refuses (Refused Full))) (some x)
+  to_one : (st : HomeState) (v a : ℕ) (i : ℕ) → i < n → (o : Ruling) (x : Act ℕ) → x.to ≡ same i → Acts (sc st v a) r o x → Does (sc st v a) r (cond (has_room down i) o (refuses Full)) (some x)
   to_one st v a i l o x e D = pick (has_room down i) (ap (room down.depth L n) e ∙ room_one down_of down n i l)
     where
-      pick : (b : Bool) → room down.depth (lanes down_of down.waiting) n x.to ≡ b → Does (sc st v a) r (cond b o (refuses (Refused Full))) (some x)
+      pick : (b : Bool) → room down.depth (lanes down_of down.waiting) n x.to ≡ b → Does (sc st v a) r (cond b o (refuses Full)) (some x)
       pick true g = inl (g, D)
       pick false g = inr (g, refl)
 
@@ -106,7 +105,7 @@ module _ (n : ℕ) (dir : View) (down : Traffic) (n64 : n ≤ 64) (r t : ℕ) (t
           (cond b
           (accepts (entry_of ReadOnly v a) (cond b (joined holders r t) holders) (sending.sent f t (message_of ReadData r v)))
           (accepts (entry_of ReadOnly v a) (cond b (joined holders r t) holders) (sending.sent f t (message_of Busy r 0))))
-          (refuses (Refused Full)))
+          (refuses Full))
           (cond (p t || ltb (count p 64) dir.limit) (act (home read_only v 0 (join t p)) (same t) (DATA reading v)) (act (home read_only v 0 p) (same t) BUSY))
       pick true e =
           rw (sym e)
@@ -137,7 +136,7 @@ module _ (n : ℕ) (dir : View) (down : Traffic) (n64 : n ≤ 64) (r t : ℕ) (t
       told = accepts (entry_of WriteTransaction v (others dir r t)) (alone holders r t) (sent_to_each f (sending.besides h t) n (message_of Invalidate r 0))
 
       at : tally h n ≡ tally h 64 → (b : Bool) → room down.depth (lanes down_of down.waiting) n (besides t (within (dir.holders r))) ≡ b
-          → Does (sc ReadOnly v a) r (cond b told (refuses (Refused Full))) (act (home (Transaction writing) v (count (besides t p) 64) (same t)) (besides t p) INV)
+          → Does (sc ReadOnly v a) r (cond b told (refuses Full)) (act (home (Transaction writing) v (count (besides t p) 64) (same t)) (besides t p) INV)
       at e true g =
           inl (
             g,
@@ -150,7 +149,7 @@ module _ (n : ℕ) (dir : View) (down : Traffic) (n64 : n ≤ 64) (r t : ℕ) (t
       at e false g = inr (g, refl)
 
       pick : (b : Bool) → eqb (tally h n) (tally h 64) ≡ b → (c : Bool) → eqb (tally h 64) (tally h n) ≡ c
-          → Does (sc ReadOnly v a) r (cond b (cond (each_has_room down (sending.besides h t) n) told (refuses (Refused Full))) (refuses (Refused OutOfTurn)))
+          → Does (sc ReadOnly v a) r (cond b (cond (each_has_room down (sending.besides h t) n) told (refuses Full)) (refuses OutOfTurn))
           (cond c (act (home (Transaction writing) v (count (besides t p) 64) (same t)) (besides t p) INV) none)
       pick true e true g = at (eqb-true (tally h n) (tally h 64) e) (each_has_room down (sending.besides h t) n) (room_others down_of down h t n n64)
       pick true e false g = absurd (borrow.Author.Tests.eqb-false (tally h 64) (tally h n) g (sym (eqb-true (tally h n) (tally h 64) e)))
@@ -181,7 +180,7 @@ module _ (n : ℕ) (dir : View) (down : Traffic) (n64 : n ≤ 64) (r t : ℕ) (t
       (rw (one_same n i n64 S.1) (pick (same i t) (view i t)))
     where
       pick : (b : Bool) → Same i t b
-          → Does (sc ReadWrite v a) r (cond (not (eqb i t)) (cond (has_room down i) (accepts (entry_of st v 1) (alone holders r t) (sending.sent f i (message_of Invalidate r 0))) (refuses (Refused Full))) (refuses (Refused OutOfTurn)))
+          → Does (sc ReadWrite v a) r (cond (not (eqb i t)) (cond (has_room down i) (accepts (entry_of st v 1) (alone holders r t) (sending.sent f i (message_of Invalidate r 0))) (refuses Full)) (refuses OutOfTurn))
           (cond (not b && true) (act (home (Transaction k) v 1 (same t)) (same i) INV) none)
       pick true (eq e) = rw (eq-eqb i t e) refl
       pick false (ne d) =
@@ -201,7 +200,7 @@ module _ (n : ℕ) (dir : View) (down : Traffic) (n64 : n ≤ 64) (r t : ℕ) (t
       (rw (one_same n i n64 S.1) (pick (same i t) (view i t)))
     where
       pick : (b : Bool) → Same i t b
-          → Does (sc ReadWrite v a) r (cond (eqb i t) (accepts (entry_of ReadOnly w a) (emptied holders r) f) (refuses (Refused OutOfTurn)))
+          → Does (sc ReadWrite v a) r (cond (eqb i t) (accepts (entry_of ReadOnly w a) (emptied holders r) f) (refuses OutOfTurn))
           (cond (b && true) (act (home read_only w 0 nobody) nobody BUSY) none)
       pick true (eq e) =
           rw (eq-eqb i t e)
@@ -228,7 +227,7 @@ module _ (n : ℕ) (dir : View) (down : Traffic) (n64 : n ≤ 64) (r t : ℕ) (t
   finished_wt v a w = finished_for_is writing WriteTransaction ReadWrite WriteData w refl refl v a (sole_holder (sc WriteTransaction v a) r) (sole n dir r n64)
 
   -- a rule on a test, and else out of turn
-  or_six : (st : HomeState) (v a : ℕ) (b : Bool) (o : Ruling) (x : Maybe (Act ℕ)) → Does (sc st v a) r o x → Does (sc st v a) r (cond b o (refuses (Refused OutOfTurn))) (cond b x none)
+  or_six : (st : HomeState) (v a : ℕ) (b : Bool) (o : Ruling) (x : Maybe (Act ℕ)) → Does (sc st v a) r o x → Does (sc st v a) r (cond b o (refuses OutOfTurn)) (cond b x none)
   or_six st v a true o x D = D
   or_six st v a false o x D = refl
 
@@ -241,7 +240,7 @@ module _ (n : ℕ) (dir : View) (down : Traffic) (n64 : n ≤ 64) (r t : ℕ) (t
     where
       pick : (b : Bool) → eqb a 1 ≡ b → (c : Bool) → ltb 1 a ≡ c
           → Does (sc WriteTransaction v a) r
-          (cond c (law.counted_down (sc WriteTransaction v a)) (cond b (finished_for (sole_holder (sc WriteTransaction v a) r) ReadWrite WriteData (sc WriteTransaction v a) r v) (refuses (Refused OutOfTurn))))
+          (cond c (law.counted_down (sc WriteTransaction v a)) (cond b (finished_for (sole_holder (sc WriteTransaction v a) r) ReadWrite WriteData (sc WriteTransaction v a) r v) (refuses OutOfTurn)))
           (cond b (machine_homerules.finish n 64 writing v p) (cond c (act (home (Transaction writing) v (a - 1) p) nobody BUSY) none))
       pick true e true g = absurd (omega (arith, eqb-true a 1 e, ltb-true 1 a g))
       pick true e false g = finished_wt v a v

@@ -4,7 +4,6 @@ use mathlib.Core.Option.{Option as Maybe, none, some}
 use Rattle.std.specs.List.{slice_get}
 use Rattle.message.specs.declared.Message.{Message}
 use Rattle.message.specs.declared.refusals.Refusal.TheVariants.{OutOfTurn, NoSuchTerminal}
-use Rattle.protocol.specs.declared.Code.TheVariants.{Refused}
 use Rattle.message.specs.declared.kinds.Kind.{Kind}
 use Rattle.message.specs.Kinds.{kind_of}
 use Rattle.network.specs.Traffic.{oldest}
@@ -42,7 +41,7 @@ module _ (s : Site) (I : Sized s) (t : ℕ) (tn : t < s.home.terminals) (m : Mes
   taken : lanes up_of (Rattle.network.specs.Traffic.after_drop s.home.up t).waiting ≡ changed S.up t (each up_of ms)
   taken = lanes_dropped up_of s.home.up t m ms (omega (arith, (served s I).up_lanes)) e
 
-  out_of_turn : Simulates (with_home s (settled s.home t r (refuses (Refused OutOfTurn)))) (model_turns.out (model_turns.drop_up S t (each up_of ms)) 6 none)
+  out_of_turn : Simulates (with_home s (settled s.home t r (refuses OutOfTurn))) (model_turns.out (model_turns.drop_up S t (each up_of ms)) 6 none)
   out_of_turn = record { site_is = site_path refl taken refl; code_is = refl; value_is = refl }
 
   acts : m.«record» < s.home.records → (o : Ruling) (a : Act ℕ) → Rattle.coherence.proofs.HomeRules.Acts (scene_at s.home r) r o a
@@ -86,7 +85,7 @@ module _ (s : Site) (I : Sized s) (t : ℕ) (tn : t < s.home.terminals) (m : Mes
       pick : (k : Option Kind) → Simulates (with_home s (settled s.home t r (answered k (scene_at s.home r) r t m.value)))
           (home_acts (sizes s) S t (up_of m) (each up_of ms) (machine_homerules.rule s.home.terminals 64 s.home.directory.limit (S.homes r) t (up_msg k m.value)))
       pick None =
-          subst (λ (x : Maybe (Act ℕ)). Simulates (with_home s (settled s.home t r (refuses (Refused OutOfTurn)))) (home_acts (sizes s) S t (up_of m) (each up_of ms) x))
+          subst (λ (x : Maybe (Act ℕ)). Simulates (with_home s (settled s.home t r (refuses OutOfTurn))) (home_acts (sizes s) S t (up_of m) (each up_of ms) x))
           (sym (unknown (entry_at s.home.entries r).state (entry_at s.home.entries r).value (entry_at s.home.entries r).awaited (S.homes r).holds)) out_of_turn
       pick (Some k) =
           settle_simulates rb (ruled k (scene_at s.home r) r t m.value) (machine_homerules.rule s.home.terminals 64 s.home.directory.limit (S.homes r) t (up_msg (Some k) m.value))
@@ -100,7 +99,7 @@ head_simulates s last I J t tn [] e = record { site_is = refl; code_is = refl; v
 head_simulates s last I J t tn (m ∷ ms) e = pick (ltb m.«record» s.home.records) refl
   where
     pick : (b : Bool) → ltb m.«record» s.home.records ≡ b
-        → Simulates (with_home s (cond b (settled s.home t m.«record» (answered (kind_of m.opcode) (scene_at s.home m.«record») m.«record» t m.value)) (settled s.home t m.«record» (refuses (Refused OutOfTurn)))))
+        → Simulates (with_home s (cond b (settled s.home t m.«record» (answered (kind_of m.opcode) (scene_at s.home m.«record») m.«record» t m.value)) (settled s.home t m.«record» (refuses OutOfTurn))))
         (cond b (home_acts (sizes s) (abs s) t (up_of m) (each up_of ms) (machine_homerules.rule s.home.terminals 64 s.home.directory.limit ((abs s).homes m.«record») t (up_msg (kind_of m.opcode) m.value))) (model_turns.out (model_turns.drop_up (abs s) t (each up_of ms)) 6 none))
     pick true f =
         let rb = ltb-true m.«record» s.home.records f in
@@ -112,7 +111,7 @@ unfolding model_calls.step model_turns.home_step
 home_step_simulates s last I J t = rw (I.row_long, I.parts_large) (pick (ltb t s.home.terminals) refl)
   where
     pick : (b : Bool) → ltb t s.home.terminals ≡ b
-        → Simulates (with_home s (cond b (head_taken s.home t (oldest s.home.up t)) (unchanged (Refused NoSuchTerminal) s.home))) (cond b (model_turns.home_lane (sizes s) (abs s) t ((abs s).up t)) (model_turns.out (abs s) 7 none))
+        → Simulates (with_home s (cond b (head_taken s.home t (oldest s.home.up t)) (unchanged NoSuchTerminal s.home))) (cond b (model_turns.home_lane (sizes s) (abs s) t ((abs s).up t)) (model_turns.out (abs s) 7 none))
     pick true e =
         let tn = ltb-true t s.home.terminals e in
         rw (lt-ltb t s.home.up.lanes (omega (arith, (served s I).up_lanes))) (head_simulates s last I J t tn (s.home.up.waiting t) refl)

@@ -6,7 +6,7 @@ use Rattle.std.proofs.lemmas.List.{get_or-set_same, get_or-set_other}
 use Rattle.std.proofs.lemmas.Bool.{and_parts}
 use Rattle.message.specs.declared.Message.{Message}
 use Rattle.message.specs.declared.refusals.Refusal.TheVariants.{Unfit}
-use Rattle.protocol.specs.declared.Code.TheVariants.{Accepted, Refused}
+use Rattle.protocol.specs.declared.Code.TheVariants.{Accepted}
 use Rattle.directory.specs.Directories.{size_fits}
 use Rattle.network.specs.Traffic.{Traffic}
 use Rattle.protocol.specs.declared.Entry.{Entry}
@@ -200,7 +200,7 @@ pub opening_stands : (s : Site) (z : Sizes) (values : List ℕ) → Tables s →
 unfolding opening
 opening_stands s z values K = pick (may_open s z values) refl
   where
-    pick : (b : Bool) → may_open s z values ≡ b → (cond b (gives Accepted 0 (opened s z values)) (unchanged (Refused Unfit) s)).code ≡ Accepted
-        → Stands (cond b (gives Accepted 0 (opened s z values)) (unchanged (Refused Unfit) s)).after (opening_value values)
+    pick : (b : Bool) → may_open s z values ≡ b → (cond b (gives Accepted 0 (opened s z values)) (unchanged Unfit s)).code ≡ Accepted
+        → Stands (cond b (gives Accepted 0 (opened s z values)) (unchanged Unfit s)).after (opening_value values)
     pick true e f = stands s z values K (openable s z values e)
     pick false e f = absurd (let h = ap Rattle.protocol.specs.Codes.number f in omega (arith, h))

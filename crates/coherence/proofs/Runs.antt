@@ -4,7 +4,6 @@ use mathlib.Core.Path.{fun_ext}
 use Rattle.message.specs.declared.Message.{Message}
 use Rattle.protocol.specs.declared.Code.{Code}
 use Rattle.message.specs.declared.refusals.Refusal.TheVariants.{OutOfTurn, NoSuchTerminal, Unfit}
-use Rattle.protocol.specs.declared.Code.TheVariants.{Refused}
 use Rattle.protocol.specs.Codes.{number, accepted}
 use Rattle.message.specs.Kinds.{kind_of}
 use Rattle.network.specs.Traffic.{oldest}
@@ -72,7 +71,7 @@ heard_keeps s t None = still s
 heard_keeps s t (Some m) =
     either s (ltb m.«record» s.home.records) _ _
     (stepped_keeps s t m.«record» (heard_as (kind_of m.opcode) (seat_at s t m.«record») t m.«record» m.value))
-    (stepped_keeps s t m.«record» (refuses (Refused OutOfTurn)))
+    (stepped_keeps s t m.«record» (refuses OutOfTurn))
 
 settled_keeps : (s : Site) (t r : ℕ) (o : Ruling) → Keeps s (with_home s (settled s.home t r o))
 settled_keeps s t r (ruling.refuses c) = pick (takes_off c)
@@ -90,14 +89,14 @@ taken_keeps s t (Some m) = pick (ltb m.«record» s.home.records)
     r : ℕ
     r = m.«record»
 
-    pick : (b : Bool) → Keeps s (with_home s (cond b (settled s.home t m.«record» (answered (kind_of m.opcode) (scene_at s.home m.«record») m.«record» t m.value)) (settled s.home t m.«record» (ruling.refuses (Refused OutOfTurn)))))
+    pick : (b : Bool) → Keeps s (with_home s (cond b (settled s.home t m.«record» (answered (kind_of m.opcode) (scene_at s.home m.«record») m.«record» t m.value)) (settled s.home t m.«record» (ruling.refuses OutOfTurn))))
     pick true = settled_keeps s t r (answered (kind_of m.opcode) (scene_at s.home r) r t m.value)
-    pick false = settled_keeps s t r (ruling.refuses (Refused OutOfTurn))
+    pick false = settled_keeps s t r (ruling.refuses OutOfTurn)
 
 home_keeps : (s : Site) (t : ℕ) → Keeps s (site_home_step s t)
 home_keeps s t = either s (row_fits s) _ _ (pick (parts_serve s.home) (ltb t s.home.terminals)) (still s)
   where
-    pick : (b c : Bool) → Keeps s (with_home s (cond b (cond c (head_taken s.home t (oldest s.home.up t)) (unchanged (Refused NoSuchTerminal) s.home)) (unchanged (Refused Unfit) s.home)))
+    pick : (b c : Bool) → Keeps s (with_home s (cond b (cond c (head_taken s.home t (oldest s.home.up t)) (unchanged NoSuchTerminal s.home)) (unchanged Unfit s.home)))
     pick true true = taken_keeps s t (oldest s.home.up t)
     pick true false = still s
     pick false c = still s

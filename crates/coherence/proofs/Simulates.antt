@@ -2,7 +2,8 @@
 use Rattle.std.proofs.Common.{◌≡◌, ℕ, ◌*◌, ◌≤◌, true, ◌&&◌, leb, length, refl, leb-true}
 use mathlib.Core.Option.{Option as Maybe, none, some}
 use Rattle.std.proofs.lemmas.Bool.{and_parts}
-use Rattle.protocol.specs.declared.Code.{Code}
+use Rattle.message.specs.declared.refusals.Refusal.{Refusal}
+use Rattle.protocol.specs.declared.Code.TheVariants.{Refused}
 use Rattle.protocol.specs.Codes.{number}
 use Rattle.protocol.specs.HomeSteps.{Given, unchanged, parts_serve}
 use Rattle.protocol.specs.Sites.{Site, row_fits}
@@ -20,7 +21,7 @@ pub record Simulates (o : Given Site) (a : model_turns.Out ℕ) : Type 0 where
   pub code_is : number o.code ≡ a.code
   pub value_is : o.value ≡ value_of a.value
 
-pub refused : (s : Site) (c : Code) → Simulates (unchanged c s) (model_turns.out (abs s) (number c) none)
+pub refused : (s : Site) (c : Refusal) → Simulates (unchanged c s) (model_turns.out (abs s) (number (Refused c)) none)
 refused s c = record { site_is = refl; code_is = refl; value_is = refl }
 
 -- What is true of the sizes and tables of every site that is open.

@@ -35,16 +35,16 @@ at_simulates : (s : Site) → Sized s → (t : ℕ) (o : Given Site) (a : model_
     → Simulates (at_terminal s t o) (cond (ltb t s.home.terminals) a (model_turns.out (abs s) 7 none))
 at_simulates s I t o a f = rw (I.row_long, I.parts_large) (pick (ltb t s.home.terminals) refl)
   where
-    pick : (b : Bool) → ltb t s.home.terminals ≡ b → Simulates (cond b o (unchanged (Refused NoSuchTerminal) s)) (cond b a (model_turns.out (abs s) 7 none))
+    pick : (b : Bool) → ltb t s.home.terminals ≡ b → Simulates (cond b o (unchanged NoSuchTerminal s)) (cond b a (model_turns.out (abs s) 7 none))
     pick true e = f (ltb-true t s.home.terminals e)
-    pick false e = refused s (Refused NoSuchTerminal)
+    pick false e = refused s NoSuchTerminal
 
 of_simulates : (s : Site) (r : ℕ) (o : Given Site) (a : model_turns.Out ℕ) → Simulates o a → Simulates (of_record s r o) (cond (ltb r s.home.records) a (model_turns.out (abs s) 8 none))
 of_simulates s r o a f = pick (ltb r s.home.records)
   where
-    pick : (b : Bool) → Simulates (cond b o (unchanged (Refused NoSuchRecord) s)) (cond b a (model_turns.out (abs s) 8 none))
+    pick : (b : Bool) → Simulates (cond b o (unchanged NoSuchRecord s)) (cond b a (model_turns.out (abs s) 8 none))
     pick true = f
-    pick false = refused s (Refused NoSuchRecord)
+    pick false = refused s NoSuchRecord
 
 -- A place that shows a record of the site can be sent home.
 sendable : (l b p : ℕ) → b ≤ 64 → (st : PlaceState) (x v : ℕ) → InItsPlace l b p (place_by st x v) → Sendable st x
@@ -92,9 +92,9 @@ module _ (s : Site) (last : ℕ → ℕ) (I : Sized s) (J : Invariant (sizes s) 
 
   stepped_simulates : (m : Message) (ms : List Message) → s.home.down.waiting t ≡ m ∷ ms → (o : Turn) (a : Move) → Meets s.home.up.waiting t o a → Simulates (stepped s t r o) (out_down (sizes s) S t r (each down_of ms) a)
   stepped_simulates m ms e (refuses c) (stays k) M =
-      subst (λ (j : ℕ). Simulates (stepped s t r (refuses c)) (out_down (sizes s) S t r (each down_of ms) (stays j))) M.is (pick (eqb (number c) 6))
+      subst (λ (j : ℕ). Simulates (stepped s t r (refuses c)) (out_down (sizes s) S t r (each down_of ms) (stays j))) M.is (pick (eqb (number (Refused c)) 6))
     where
-      pick : (b : Bool) → Simulates (unchanged c (cond b (Rattle.protocol.specs.Calls.down_taken s t) s)) (model_turns.out (cond b (drop_down S t (each down_of ms)) S) (number c) none)
+      pick : (b : Bool) → Simulates (unchanged c (cond b (Rattle.protocol.specs.Calls.down_taken s t) s)) (model_turns.out (cond b (drop_down S t (each down_of ms)) S) (number (Refused c)) none)
       pick true =
           record { site_is = site_path refl refl refl (lanes_dropped down_of s.home.down t m ms (omega (arith, (served s I).down_lanes)) e); code_is = refl; value_is = refl }
       pick false = refused s c
@@ -167,7 +167,7 @@ module _ (s : Site) (last : ℕ → ℕ) (I : Sized s) (J : Invariant (sizes s) 
   head_simulates tn (m ∷ ms) e = pick (ltb m.«record» s.home.records)
     where
       pick : (b : Bool)
-          → Simulates (cond b (stepped s t m.«record» (heard_as (kind_of m.opcode) (seat_at s t m.«record») t m.«record» m.value)) (stepped s t m.«record» (refuses (Refused OutOfTurn))))
+          → Simulates (cond b (stepped s t m.«record» (heard_as (kind_of m.opcode) (seat_at s t m.«record») t m.«record» m.value)) (stepped s t m.«record» (refuses OutOfTurn)))
           (cond (b && lands (down_msg (kind_of m.opcode) m.value) m.«record» ((abs s).place t (m.«record» % s.places))) (terminal_takes (sizes s) (abs s) t (down_of m) (each down_of ms) (receive (down_msg (kind_of m.opcode) m.value) (copy_of m.«record» ((abs s).place t (m.«record» % s.places))) (wait_of m.«record» ((abs s).wait t)))) (model_turns.out (drop_down (abs s) t (each down_of ms)) 6 none))
       pick true = hearing_makes s last I J t tn m.«record» m ms e
       pick false =

@@ -67,7 +67,7 @@ module _ (s : Site) (last : ℕ → ℕ) (K : Stands s last) where
   gave_last (TerminalStep t) = tt
 
   -- with deep lanes no call is refused for want of room
-  finds_room : told.Deep (sizes s) → (c : Call) → (step s c).code ≡ (Refused Full) → ⊥
+  finds_room : told.Deep (sizes s) → (c : Call) → (step s c).code ≡ Refused Full → ⊥
   finds_room deep c e =
       let M = step_simulates s last K.sized K.kept c in
       step_never_full (sizes s) S last K.kept deep (call_of c) (sym M.code_is ∙ ap number e)

@@ -1,6 +1,7 @@
 -- A terminal's read, write and release are those of the machine.
 use Rattle.std.proofs.Common.{◌≡◌, ℕ, ◌+◌, ◌≤◌, Bool, true, false, cond, eqb, leb, List, [], ◌∷◌, ◌++◌, length, sym, refl, ap, ◌∙◌, arith, eqb-true, le-leb}
 use mathlib.Core.Option.{Option as Maybe, none, some}
+use Rattle.message.specs.declared.refusals.Refusal.{Refusal}
 use Rattle.message.specs.declared.Message.{Message}
 use Rattle.protocol.specs.declared.Code.{Code}
 use Rattle.message.specs.declared.refusals.Refusal.TheVariants.{Waiting, Full, NoCopy}
@@ -38,7 +39,7 @@ pub record Left (up : ℕ → List Message) (t : ℕ) (code value : ℕ) (place 
   pub lanes_are : lanes up_of waiting ≡ changed (lanes up_of up) t L.lane
 
 abbrev pub Met : (ℕ → List Message) → ℕ → Turn → Move → Type 0
-Met up t (refuses c) (stays k) = number c ≡ k
+Met up t (refuses c) (stays k) = number (Refused c) ≡ k
 Met up t (refuses c) (goes k v L) = ⊥
 Met up t (moves c value place wait waiting) (stays k) = ⊥
 Met up t (moves c value place wait waiting) (goes k v L) = Left up t (number c) value place wait waiting k v L
@@ -47,7 +48,7 @@ Met up t (moves c value place wait waiting) (goes k v L) = Left up t (number c) 
 pub record Meets (up : ℕ → List Message) (t : ℕ) (turn : Turn) (move : Move) : Type 0 where
   pub is : Met up t turn move
 
-pub refused : (up : ℕ → List Message) (t : ℕ) (c : Code) → Meets up t (refuses c) (stays (number c))
+pub refused : (up : ℕ → List Message) (t : ℕ) (c : Refusal) → Meets up t (refuses c) (stays (number (Refused c)))
 refused up t c = record { is = refl }
 
 abbrev pub place : PlaceState → ℕ → ℕ → Place
@@ -97,12 +98,12 @@ module _ (up : Traffic) (t : ℕ) where
 
   -- a request, where the place has nothing to send
   plainly : (r : ℕ) (k : Access) (m : Message) (pl' : Place) (w' : Wait) (P' : model.Place ℕ) → place_of pl' ≡ P' → want_of w' ≡ wants k r → up_of m ≡ mail r (REQ k)
-      → Meets f t (cond (has_room_for 1 up t) (moves Requested 0 pl' w' (sending.sent f t m)) (refuses (Refused Full)))
+      → Meets f t (cond (has_room_for 1 up t) (moves Requested 0 pl' w' (sending.sent f t m)) (refuses Full))
       (cond (leb (length lane + 1) up.depth) (goes 1 none (loc P' (wants k r) ((lane ++ []) ++ (mail r (REQ k) ∷ [])))) (stays 3))
   plainly r k m pl' w' P' e' h g =
       if f t (has_room_for 1 up t) (leb (length lane + 1) up.depth) (room 1)
       (rw (append_nil lane) (sends Requested pl' w' m P' (wants k r) (mail r (REQ k)) e' h g))
-      (refused f t (Refused Full))
+      (refused f t Full)
 
   asks : (r : ℕ) (k : Access) (m : Message) (st : PlaceState) (x v : ℕ) → Sendable st x → (w : Wait) (pl' : Place) (w' : Wait) → place_of pl' ≡ cleared k r (place_by st x v) → want_of w' ≡ wants k r → up_of m ≡ mail r (REQ k)
       → Meets f t (requested m w' pl' (seat st x v w up) t) (a_miss up.depth r k rests (here st x v w))
@@ -121,13 +122,13 @@ module _ (up : Traffic) (t : ℕ) where
               lanes_are = lanes_twice up_of f t (message_of Replacement x v) m ∙ ap (λ (y : Mail ℕ). changed (lanes up_of f) t ((lane ++ (mail x (REPM v) ∷ [])) ++ (y ∷ []))) g;
             };
       })
-      (refused f t (Refused Full)))
+      (refused f t Full))
 
   misses : (r : ℕ) (k : Access) (m : Message) (st : PlaceState) (x v : ℕ) → Sendable st x → (w : Wait) (pl' : Place) (w' : Wait) → place_of pl' ≡ cleared k r (place_by st x v) → want_of w' ≡ wants k r → up_of m ≡ mail r (REQ k)
       → Meets f t (missed m w' pl' (seat st x v w up) t) (a_miss up.depth r k (want_of w) (here st x v w))
   misses r k m st x v s Nothing pl' w' e h g = asks r k m st x v s Nothing pl' w' e h g
-  misses r k m st x v s (ToRead y) pl' w' e h g = refused f t (Refused Waiting)
-  misses r k m st x v s (ToWrite y) pl' w' e h g = refused f t (Refused Waiting)
+  misses r k m st x v s (ToRead y) pl' w' e h g = refused f t Waiting
+  misses r k m st x v s (ToWrite y) pl' w' e h g = refused f t Waiting
 
   cleared_rd : (r : ℕ) (P : model.Place ℕ) → empty ≡ cleared reading r P
   unfolding cleared
@@ -166,18 +167,18 @@ module _ (up : Traffic) (t : ℕ) where
 
   pub releases : (r : ℕ) (st : PlaceState) (x v : ℕ) (w : Wait) → Meets f t (release_turn (seat st x v w up) t r) (a_release up.depth r (copy_of r (place_by st x v)) (here st x v w))
   unfolding copy_of same
-  releases r Invalid x v w = refused f t (Refused NoCopy)
+  releases r Invalid x v w = refused f t NoCopy
   releases r InRead x v w = pick (eqb x r)
     where
-      pick : (b : Bool) → Meets f t (cond b (moves Accepted 0 invalid w f) (refuses (Refused NoCopy))) (a_release up.depth r (cond b (readable v) no_copy) (here InRead x v w))
+      pick : (b : Bool) → Meets f t (cond b (moves Accepted 0 invalid w f) (refuses NoCopy)) (a_release up.depth r (cond b (readable v) no_copy) (here InRead x v w))
       pick true = rw (append_nil lane) (keeps Accepted 0 none refl invalid w empty (want_of w) refl refl)
-      pick false = refused f t (Refused NoCopy)
+      pick false = refused f t NoCopy
   releases r InWrite x v w = pick (eqb x r) refl
     where
       pick : (b : Bool) → eqb x r ≡ b
-          → Meets f t (cond b (cond b (cond (has_room_for 1 up t) (moves Accepted 0 invalid w (sending.sent f t (message_of Replacement r v))) (refuses (Refused Full))) (moves Accepted 0 invalid w f)) (refuses (Refused NoCopy))) (a_release up.depth r (cond b (writable v) no_copy) (here InWrite x v w))
+          → Meets f t (cond b (cond b (cond (has_room_for 1 up t) (moves Accepted 0 invalid w (sending.sent f t (message_of Replacement r v))) (refuses Full)) (moves Accepted 0 invalid w f)) (refuses NoCopy)) (a_release up.depth r (cond b (writable v) no_copy) (here InWrite x v w))
       pick true e =
           if f t (has_room_for 1 up t) (leb (length lane + 1) up.depth) (room 1)
           (sends Accepted invalid w (message_of Replacement r v) empty (want_of w) (mail x (REPM v)) refl refl (ap (λ (y : ℕ). mail y (REPM v)) (sym (eqb-true x r e))))
-          (refused f t (Refused Full))
-      pick false e = refused f t (Refused NoCopy)
+          (refused f t Full)
+      pick false e = refused f t NoCopy

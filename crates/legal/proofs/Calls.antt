@@ -2,10 +2,9 @@
 -- terminals there are.
 use Rattle.std.proofs.Common.{ℕ, Bool, ltb, Some, None, Option}
 use Rattle.std.proofs.lemmas.Bool.{cond_both}
+use Rattle.message.specs.declared.refusals.Refusal.{Refusal}
 use Rattle.message.specs.declared.Message.{Message}
-use Rattle.protocol.specs.declared.Code.{Code}
 use Rattle.message.specs.declared.refusals.Refusal.TheVariants.{OutOfTurn, NoSuchTerminal, NoSuchRecord, Unfit}
-use Rattle.protocol.specs.declared.Code.TheVariants.{Refused}
 use Rattle.message.specs.Checks.{given}
 use Rattle.message.specs.Kinds.{kind_of}
 use Rattle.network.specs.Traffic.{oldest}
@@ -24,27 +23,27 @@ pub record LeavesLegalSite (given : Given Site) : Type 0 where
 
 module _ (site : Site) (before : LegalHome site.home) where
   -- what follows a check, and what follows the checks of a terminal
-  behind : (test : Bool) (code : Code) (follows : Given Site) → LeavesLegalSite follows → LeavesLegalSite (given test (unchanged code site) follows)
-  behind test code follows legal = cond_both test follows (unchanged code site) LeavesLegalSite (λ _. legal) (λ _. record { home = before })
+  behind : (test : Bool) (refusal : Refusal) (follows : Given Site) → LeavesLegalSite follows → LeavesLegalSite (given test (unchanged refusal site) follows)
+  behind test refusal follows legal = cond_both test follows (unchanged refusal site) LeavesLegalSite (λ _. legal) (λ _. record { home = before })
 
   at_terminal_legal : (t : ℕ) (follows : Given Site) → LeavesLegalSite follows → LeavesLegalSite (at_terminal site t follows)
-  at_terminal_legal t follows legal = behind (fits site) (Refused Unfit) _ (behind (ltb t site.home.terminals) (Refused NoSuchTerminal) follows legal)
+  at_terminal_legal t follows legal = behind (fits site) Unfit _ (behind (ltb t site.home.terminals) NoSuchTerminal follows legal)
 
   -- a turn of a terminal: read, write or release, behind the checks
   turned_legal : (t r : ℕ) (turn : Turn) → LeavesLegalSite (turned site t r turn)
-  turned_legal t r (refuses code) = record { home = before }
+  turned_legal t r (refuses refusal) = record { home = before }
   turned_legal t r (moves code value place wait waiting) = record { home = record { entries = before.entries; size = before.size } }
 
   asked_legal : (t r : ℕ) (turn : Turn) → LeavesLegalSite (at_terminal site t (of_record site r (turned site t r turn)))
   asked_legal t r turn =
-      at_terminal_legal t _ (behind (ltb r site.home.records) (Refused NoSuchRecord) (turned site t r turn) (turned_legal t r turn))
+      at_terminal_legal t _ (behind (ltb r site.home.records) NoSuchRecord (turned site t r turn) (turned_legal t r turn))
 
   -- a turn about a message, and the message
   stepped_legal : (t r : ℕ) (turn : Turn) → LeavesLegalSite (stepped site t r turn)
-  stepped_legal t r (refuses code) =
+  stepped_legal t r (refuses refusal) =
       record {
         home =
-            cond_both (takes_off code) (down_taken site t) site (λ after. LegalHome after.home)
+            cond_both (takes_off refusal) (down_taken site t) site (λ after. LegalHome after.home)
             (λ _. record { entries = before.entries; size = before.size })
             (λ _. before);
       }
@@ -55,11 +54,11 @@ module _ (site : Site) (before : LegalHome site.home) where
   heard_legal t (Some m) =
       cond_both (ltb m.«record» site.home.records) _ _ LeavesLegalSite
       (λ _. stepped_legal t m.«record» (heard_as (kind_of m.opcode) (seat_at site t m.«record») t m.«record» m.value))
-      (λ _. stepped_legal t m.«record» (refuses (Refused OutOfTurn)))
+      (λ _. stepped_legal t m.«record» (refuses OutOfTurn))
 
   pub step_legal : (call : Call) → LeavesLegalSite (step site call)
   step_legal (Read t r) = asked_legal t r (read_turn (seat_at site t r) t r)
   step_legal (Write t r v) = asked_legal t r (write_turn (seat_at site t r) t r v)
   step_legal (Release t r) = asked_legal t r (release_turn (seat_at site t r) t r)
-  step_legal (HomeStep t) = behind (row_fits site) (Refused Unfit) _ (record { home = home_step_legal site.home t before })
+  step_legal (HomeStep t) = behind (row_fits site) Unfit _ (record { home = home_step_legal site.home t before })
   step_legal (TerminalStep t) = at_terminal_legal t _ (heard_legal t (oldest site.home.down t))

@@ -4,7 +4,6 @@ use Rattle.std.proofs.Common.{ℕ, ◌<◌, ◌≤◌, ltb, Some, None, Option, 
 use Rattle.std.proofs.lemmas.Bool.{cond_both, ltb-true}
 use Rattle.message.specs.declared.Message.{Message}
 use Rattle.message.specs.declared.refusals.Refusal.TheVariants.{OutOfTurn}
-use Rattle.protocol.specs.declared.Code.TheVariants.{Refused}
 use Rattle.message.specs.Kinds.{kind_of}
 use Rattle.network.specs.Traffic.{oldest}
 use Rattle.protocol.specs.Scenes.{Ruling, refuses, accepts}
@@ -23,8 +22,8 @@ record LeavesLegalHome (given : Given Home) : Type 0 where
 
 -- a ruling is carried out
 settled_legal : (home : Home) (t r : ℕ) (ruling : Ruling) → LegalHome home → LeavesLegalEntry (entry_at home.entries r) ruling → LeavesLegalHome (settled home t r ruling)
-settled_legal home t r (refuses code) before ruled =
-    record { home = cond_both (takes_off code) (up_taken home t) home LegalHome (λ _. record { entries = before.entries; size = before.size }) (λ _. before) }
+settled_legal home t r (refuses refusal) before ruled =
+    record { home = cond_both (takes_off refusal) (up_taken home t) home LegalHome (λ _. record { entries = before.entries; size = before.size }) (λ _. before) }
 settled_legal home t r (accepts entry holders waiting) before ruled =
     record { home = record { entries = set_legal home.entries r entry ruled.legal before.entries; size = before.size } }
 
@@ -35,7 +34,7 @@ taken_legal home t (Some m) served before =
     cond_both (ltb m.«record» home.records) _ _ LeavesLegalHome
     (λ _. settled_legal home t m.«record» _ before
     (answered_legal (kind_of m.opcode) (scene_at home m.«record») m.«record» t m.value served (before.entries m.«record»)))
-    (λ _. settled_legal home t m.«record» (refuses (Refused OutOfTurn)) before (record { legal = before.entries m.«record» }))
+    (λ _. settled_legal home t m.«record» (refuses OutOfTurn) before (record { legal = before.entries m.«record» }))
 
 -- a step, behind its checks
 checked_legal : (home : Home) (t : ℕ) → LegalHome home → LeavesLegalHome (home_step home t)

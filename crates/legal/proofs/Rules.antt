@@ -2,10 +2,9 @@
 -- others hold the record: it awaits one acknowledgement from each of these, and as the writer is none of them, 1 to 63.
 use Rattle.std.proofs.Common.{◌≡◌, ℕ, ◌<◌, ◌≤◌, Bool, true, false, cond, not, eqb, ltb, List, Some, None, Option, refl, arith, is_ok}
 use Rattle.std.proofs.lemmas.Bool.{cond_both, eqb-false, eq-eqb, ltb-true, not_from_true, and_right}
+use Rattle.message.specs.declared.refusals.Refusal.{Refusal}
 use Rattle.message.specs.declared.Message.{Message}
-use Rattle.protocol.specs.declared.Code.{Code}
 use Rattle.message.specs.declared.refusals.Refusal.TheVariants.{Full, OutOfTurn}
-use Rattle.protocol.specs.declared.Code.TheVariants.{Refused}
 use Rattle.message.specs.declared.kinds.Kind.{Kind}
 use Rattle.message.specs.declared.kinds.Kind.TheVariants.{ReadRequest, WriteRequest, Replacement, Update, Acknowledgement, ReadData, WriteData, Invalidate, Busy}
 use Rattle.message.specs.Checks.{given}
@@ -36,7 +35,7 @@ module _ (s : Scene) (r t : ℕ) (before : Legal s.entry) where
   Leaves = LeavesLegalEntry s.entry
 
   -- a refusal, and an acceptance with the same entry
-  refused_legal : {code : Code} → Leaves (refuses code)
+  refused_legal : {refusal : Refusal} → Leaves (refuses refusal)
   refused_legal = record { legal = before }
 
   same_legal : {holders : Holders} {waiting : ℕ → List Message} → Leaves (accepts s.entry holders waiting)
@@ -46,35 +45,35 @@ module _ (s : Scene) (r t : ℕ) (before : Legal s.entry) where
   either : (test : Bool) {one other : Ruling} → (test ≡ true → Leaves one) → (test ≡ false → Leaves other) → Leaves (cond test one other)
   either test {one} {other} = cond_both test one other Leaves
 
-  behind : (test : Bool) (code : Code) {ruling : Ruling} → Leaves ruling → Leaves (given test (refuses code) ruling)
+  behind : (test : Bool) (refusal : Refusal) {ruling : Ruling} → Leaves ruling → Leaves (given test (refuses refusal) ruling)
   behind test code follows = either test (λ _. follows) (λ _. refused_legal)
 
   -- the rules, in their order
   read_granted_legal : Leaves (read_granted s r t)
   read_granted_legal =
-      behind (has_room s.down t) (Refused Full) (either (is_ok (add_answer s.directory r t)) (λ _. same_legal) (λ _. same_legal))
+      behind (has_room s.down t) Full (either (is_ok (add_answer s.directory r t)) (λ _. same_legal) (λ _. same_legal))
 
   write_unshared_legal : s.entry.awaited ≡ 0 → Leaves (write_unshared s r t)
-  write_unshared_legal none = behind (has_room s.down t) (Refused Full) (record { legal = none })
+  write_unshared_legal none = behind (has_room s.down t) Full (record { legal = none })
 
   write_shared_legal : t < 64 → eqb (others s.directory r t) 0 ≡ false → Leaves (write_shared s r t)
   write_shared_legal served some =
       let few = others_few s r t served in
       let not_None = eqb-false (others s.directory r t) 0 some in
-      behind (all_holders_below s.terminals s.directory r) (Refused OutOfTurn)
-      (behind (each_has_room s.down (besides (s.directory.holders r) t) s.terminals) (Refused Full)
+      behind (all_holders_below s.terminals s.directory r) OutOfTurn
+      (behind (each_has_room s.down (besides (s.directory.holders r) t) s.terminals) Full
       (record { legal = (omega arith, omega arith) }))
 
   recalled_legal : (holder : Option ℕ) (transaction : HomeState) → LegalCount transaction 1 → Leaves (recalled_from holder transaction s r t)
   recalled_legal None transaction one = refused_legal
-  recalled_legal (Some i) transaction one = behind (not (eqb i t)) (Refused OutOfTurn) (behind (has_room s.down i) (Refused Full) (record { legal = one }))
+  recalled_legal (Some i) transaction one = behind (not (eqb i t)) OutOfTurn (behind (has_room s.down i) Full (record { legal = one }))
 
   replaced_legal : (holder : Option ℕ) (v : ℕ) → s.entry.awaited ≡ 0 → Leaves (replaced_by holder s r t v)
   replaced_legal None v none = refused_legal
-  replaced_legal (Some i) v none = behind (eqb i t) (Refused OutOfTurn) (record { legal = none })
+  replaced_legal (Some i) v none = behind (eqb i t) OutOfTurn (record { legal = none })
 
   turned_away_legal : Leaves (turned_away s r t)
-  turned_away_legal = behind (has_room s.down t) (Refused Full) same_legal
+  turned_away_legal = behind (has_room s.down t) Full same_legal
 
   value_kept_legal : (v : ℕ) → Leaves (value_kept s v)
   value_kept_legal v = record { legal = before }
@@ -84,10 +83,10 @@ module _ (s : Scene) (r t : ℕ) (before : Legal s.entry) where
 
   finished_for_legal : (holder : Option ℕ) (next : HomeState) (reply : Kind) (v : ℕ) → LegalCount next 0 → Leaves (finished_for holder next reply s r v)
   finished_for_legal None next reply v ends = refused_legal
-  finished_for_legal (Some i) next reply v ends = behind (has_room s.down i) (Refused Full) (record { legal = ends })
+  finished_for_legal (Some i) next reply v ends = behind (has_room s.down i) Full (record { legal = ends })
 
   finished_legal : (next : HomeState) (reply : Kind) (v : ℕ) → LegalCount next 0 → Leaves (finished next reply s r v)
-  finished_legal next reply v ends = behind (eqb s.entry.awaited 1) (Refused OutOfTurn) (finished_for_legal (sole_holder s r) next reply v ends)
+  finished_legal next reply v ends = behind (eqb s.entry.awaited 1) OutOfTurn (finished_for_legal (sole_holder s r) next reply v ends)
 
   -- the kinds of messages, in each state
   read_requested_legal : (state : HomeState) → Leaves (read_requested state s r t)

@@ -2,7 +2,6 @@
 use Rattle.std.specs.Prelude.{ℕ, cond, Some, None, Option, nat_lt, slice_set}
 use Rattle.message.specs.declared.Message.{Message}
 use Rattle.message.specs.declared.refusals.Refusal.TheVariants.{Empty, OutOfTurn, NoSuchTerminal, NoSuchRecord, Unfit}
-use Rattle.protocol.specs.declared.Code.TheVariants.{Refused}
 use Rattle.message.specs.Checks.{given}
 use Rattle.message.specs.Kinds.{kind_of}
 use Rattle.network.specs.Traffic.{Traffic, oldest, after_drop, with_waiting}
@@ -18,13 +17,13 @@ use Rattle.protocol.specs.Sites.{Site, spot, place_for, seat_at, row_fits, fits,
 -- First that the row and the parts are large enough, then that the terminal is there.
 abbrev pub at_terminal : Site → ℕ → Given Site → Given Site
 at_terminal site t follows =
-    given (fits site) (unchanged (Refused Unfit) site)
-    (given (nat_lt t site.home.terminals) (unchanged (Refused NoSuchTerminal) site)
+    given (fits site) (unchanged Unfit site)
+    (given (nat_lt t site.home.terminals) (unchanged NoSuchTerminal site)
     follows)
 
 -- Then that the record is there.
 abbrev pub of_record : Site → ℕ → Given Site → Given Site
-of_record site r follows = given (nat_lt r site.home.records) (unchanged (Refused NoSuchRecord) site) follows
+of_record site r follows = given (nat_lt r site.home.records) (unchanged NoSuchRecord site) follows
 
 -- One place, one wait and the networks are changed.
 abbrev pub changed : Site → ℕ → ℕ → Place → Wait → Traffic → Traffic → Site
@@ -38,7 +37,7 @@ changed site t r place wait up down =
 
 -- Terminal t makes its turn about record r.
 abbrev pub turned : Site → ℕ → ℕ → Turn → Given Site
-turned site t r (refuses code) = unchanged code site
+turned site t r (refuses refusal) = unchanged refusal site
 turned site t r (moves code value place wait waiting) =
     gives code value (changed site t r place wait (with_waiting site.home.up waiting) site.home.down)
 
@@ -66,16 +65,16 @@ down_taken site t =
 
 -- Terminal t makes its turn about the message that it takes.
 abbrev pub stepped : Site → ℕ → ℕ → Turn → Given Site
-stepped site t r (refuses code) = unchanged code (cond (takes_off code) (down_taken site t) site)
+stepped site t r (refuses refusal) = unchanged refusal (cond (takes_off refusal) (down_taken site t) site)
 stepped site t r (moves code value place wait waiting) =
     gives code value
     (changed site t r place wait (with_waiting site.home.up waiting) (after_drop site.home.down t))
 
 -- A message about a record that the site has not is out of turn.
 abbrev pub message_heard : Site → ℕ → Option Message → Given Site
-message_heard site t None = unchanged (Refused Empty) site
+message_heard site t None = unchanged Empty site
 message_heard site t (Some m) =
-    given (nat_lt m.«record» site.home.records) (stepped site t m.«record» (refuses (Refused OutOfTurn)))
+    given (nat_lt m.«record» site.home.records) (stepped site t m.«record» (refuses OutOfTurn))
     (stepped site t m.«record»
     (heard_as (kind_of m.opcode) (seat_at site t m.«record») t m.«record» m.value))
 
@@ -91,7 +90,7 @@ with_home site given-home =
 
 -- The home takes the oldest message of a terminal's up lane.
 abbrev pub site_home_step : Site → ℕ → Given Site
-site_home_step site t = given (row_fits site) (unchanged (Refused Unfit) site) (with_home site (home_step site.home t))
+site_home_step site t = given (row_fits site) (unchanged Unfit site) (with_home site (home_step site.home t))
 
 -- What a call does.
 abbrev pub step : Site → Call → Given Site

@@ -50,7 +50,7 @@ Deep site = (2 * site.home.records + 1 ≤ site.home.up.depth) × (site.home.rec
 -- Never full: no answer says that a lane was full.
 abbrev pub NeverFull : List Answer → Type 0
 NeverFull [] = Unit {0}
-NeverFull (answer ∷ given) = (answer.0 ≢ (Refused Full)) × NeverFull given
+NeverFull (answer ∷ given) = (answer.0 ≢ Refused Full) × NeverFull given
 
 -- A step is a home step or a terminal step.
 pub data Step : Type 0 where

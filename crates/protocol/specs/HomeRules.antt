@@ -1,7 +1,6 @@
 -- What the home does with a message about record r from terminal t, rule by rule; v is the value that it carries.
 use Rattle.std.specs.Prelude.{ℕ, ◌-◌, Bool, cond, not, Some, None, Option, ◌==◌, nat_lt, is_ok}
 use Rattle.message.specs.declared.refusals.Refusal.TheVariants.{Full, OutOfTurn}
-use Rattle.protocol.specs.declared.Code.TheVariants.{Refused}
 use Rattle.message.specs.declared.kinds.Kind.{Kind}
 use Rattle.message.specs.declared.kinds.Kind.TheVariants.{ReadRequest, WriteRequest, Replacement, Update, Acknowledgement, ReadData, WriteData, Invalidate, Busy}
 use Rattle.message.specs.Checks.{given}
@@ -46,7 +45,7 @@ sole_holder s r = if_below s.terminals (only_holder s.directory r)
 -- home is busy.
 abbrev pub read_granted : Scene → ℕ → ℕ → Ruling
 read_granted s r t =
-    given (has_room s.down t) (refuses (Refused Full))
+    given (has_room s.down t) (refuses Full)
     (cond (is_ok (add_answer s.directory r t))
     (accepts s.entry (added s.directory r t).holders (sent s.down.waiting t (message_of ReadData r s.entry.value)))
     (accepts s.entry (added s.directory r t).holders (sent s.down.waiting t (message_of Busy r 0))))
@@ -54,7 +53,7 @@ read_granted s r t =
 -- Read-Only, write request, no holder but the terminal: it holds the record alone, in Read-Write, and gets the value.
 abbrev pub write_unshared : Scene → ℕ → ℕ → Ruling
 write_unshared s r t =
-    given (has_room s.down t) (refuses (Refused Full))
+    given (has_room s.down t) (refuses Full)
     (accepts
     (in_state ReadWrite s.entry)
     (alone s.directory.holders r t)
@@ -64,8 +63,8 @@ write_unshared s r t =
 -- and the terminal holds the record alone, in a Write-Transaction.
 abbrev pub write_shared : Scene → ℕ → ℕ → Ruling
 write_shared s r t =
-    given (all_holders_below s.terminals s.directory r) (refuses (Refused OutOfTurn))
-    (given (each_has_room s.down (besides (s.directory.holders r) t) s.terminals) (refuses (Refused Full))
+    given (all_holders_below s.terminals s.directory r) (refuses OutOfTurn)
+    (given (each_has_room s.down (besides (s.directory.holders r) t) s.terminals) (refuses Full)
     (accepts
     (entry_of WriteTransaction s.entry.value (others s.directory r t))
     (alone s.directory.holders r t)
@@ -74,10 +73,10 @@ write_shared s r t =
 -- Read-Write, request from another than the holder: the holder is told to invalidate its copy, one acknowledgement is awaited,
 -- and the terminal holds the record alone, in a transaction.
 abbrev pub recalled_from : Option ℕ → HomeState → Scene → ℕ → ℕ → Ruling
-recalled_from None transaction s r t = refuses (Refused OutOfTurn)
+recalled_from None transaction s r t = refuses OutOfTurn
 recalled_from (Some i) transaction s r t =
-    given (not (i == t)) (refuses (Refused OutOfTurn))
-    (given (has_room s.down i) (refuses (Refused Full))
+    given (not (i == t)) (refuses OutOfTurn)
+    (given (has_room s.down i) (refuses Full)
     (accepts
     (entry_of transaction s.entry.value 1)
     (alone s.directory.holders r t)
@@ -88,9 +87,9 @@ recalled transaction s r t = recalled_from (sole_holder s r) transaction s r t
 
 -- Read-Write, replacement from the holder: the value comes home, and nobody holds the record.
 abbrev pub replaced_by : Option ℕ → Scene → ℕ → ℕ → ℕ → Ruling
-replaced_by None s r t v = refuses (Refused OutOfTurn)
+replaced_by None s r t v = refuses OutOfTurn
 replaced_by (Some i) s r t v =
-    given (i == t) (refuses (Refused OutOfTurn))
+    given (i == t) (refuses OutOfTurn)
     (accepts (entry_of ReadOnly v s.entry.awaited) (emptied s.directory.holders r) s.down.waiting)
 
 abbrev pub replaced : Scene → ℕ → ℕ → ℕ → Ruling
@@ -99,7 +98,7 @@ replaced s r t v = replaced_by (sole_holder s r) s r t v
 -- A transaction runs, request: the terminal is told that the home is busy.
 abbrev pub turned_away : Scene → ℕ → ℕ → Ruling
 turned_away s r t =
-    given (has_room s.down t) (refuses (Refused Full))
+    given (has_room s.down t) (refuses Full)
     (accepts s.entry s.directory.holders (sent s.down.waiting t (message_of Busy r 0)))
 
 -- A transaction runs, replacement: its value is kept.
@@ -113,15 +112,15 @@ counted_down s =
 
 -- The last acknowledgement or update has come, and v is the value: the requester gets it, and the transaction ends.
 abbrev pub finished_for : Option ℕ → HomeState → Kind → Scene → ℕ → ℕ → Ruling
-finished_for None next reply s r v = refuses (Refused OutOfTurn)
+finished_for None next reply s r v = refuses OutOfTurn
 finished_for (Some i) next reply s r v =
-    given (has_room s.down i) (refuses (Refused Full))
+    given (has_room s.down i) (refuses Full)
     (accepts (entry_of next v 0) s.directory.holders (sent s.down.waiting i (message_of reply r v)))
 
 -- Only where one acknowledgement is awaited.
 abbrev pub finished : HomeState → Kind → Scene → ℕ → ℕ → Ruling
 finished next reply s r v =
-    given (s.entry.awaited == 1) (refuses (Refused OutOfTurn))
+    given (s.entry.awaited == 1) (refuses OutOfTurn)
     (finished_for (sole_holder s r) next reply s r v)
 
 -- A read request, in each state.
@@ -140,22 +139,22 @@ write_requested WriteTransaction s r t = turned_away s r t
 
 -- A replacement, in each state.
 abbrev pub replacement_came : HomeState → Scene → ℕ → ℕ → ℕ → Ruling
-replacement_came ReadOnly s r t v = refuses (Refused OutOfTurn)
+replacement_came ReadOnly s r t v = refuses OutOfTurn
 replacement_came ReadWrite s r t v = replaced s r t v
 replacement_came ReadTransaction s r t v = value_kept s v
 replacement_came WriteTransaction s r t v = value_kept s v
 
 -- An update, in each state.
 abbrev pub update_came : HomeState → Scene → ℕ → ℕ → Ruling
-update_came ReadOnly s r v = refuses (Refused OutOfTurn)
-update_came ReadWrite s r v = refuses (Refused OutOfTurn)
+update_came ReadOnly s r v = refuses OutOfTurn
+update_came ReadWrite s r v = refuses OutOfTurn
 update_came ReadTransaction s r v = finished ReadOnly ReadData s r v
 update_came WriteTransaction s r v = finished ReadWrite WriteData s r v
 
 -- An acknowledgement, in each state.
 abbrev pub acknowledged : HomeState → Scene → ℕ → Ruling
-acknowledged ReadOnly s r = refuses (Refused OutOfTurn)
-acknowledged ReadWrite s r = refuses (Refused OutOfTurn)
+acknowledged ReadOnly s r = refuses OutOfTurn
+acknowledged ReadWrite s r = refuses OutOfTurn
 acknowledged ReadTransaction s r = finished ReadOnly ReadData s r s.entry.value
 acknowledged WriteTransaction s r =
     cond (nat_lt 1 s.entry.awaited) (counted_down s) (finished ReadWrite WriteData s r s.entry.value)
@@ -167,7 +166,7 @@ ruled WriteRequest s r t v = write_requested s.entry.state s r t
 ruled Replacement s r t v = replacement_came s.entry.state s r t v
 ruled Update s r t v = update_came s.entry.state s r v
 ruled Acknowledgement s r t v = acknowledged s.entry.state s r
-ruled ReadData s r t v = refuses (Refused OutOfTurn)
-ruled WriteData s r t v = refuses (Refused OutOfTurn)
-ruled Invalidate s r t v = refuses (Refused OutOfTurn)
-ruled Busy s r t v = refuses (Refused OutOfTurn)
+ruled ReadData s r t v = refuses OutOfTurn
+ruled WriteData s r t v = refuses OutOfTurn
+ruled Invalidate s r t v = refuses OutOfTurn
+ruled Busy s r t v = refuses OutOfTurn

@@ -1,5 +1,6 @@
 -- A home step: the oldest message of an up lane is taken, and the home rules on it.
 use Rattle.std.specs.Prelude.{ℕ, Bool, cond, ◌&&◌, List, Some, None, Option, ◌==◌, nat_le, nat_lt, slice_index_or, slice_set}
+use Rattle.message.specs.declared.refusals.Refusal.{Refusal}
 use Rattle.message.specs.declared.Message.{Message}
 use Rattle.protocol.specs.declared.Code.{Code}
 use Rattle.message.specs.declared.refusals.Refusal.TheVariants.{Empty, OutOfTurn, NoSuchTerminal, Unfit}
@@ -35,12 +36,12 @@ abbrev pub gives : {S : Type 0} → Code → ℕ → S → Given S
 gives code value after = record { code = code; value = value; after = after }
 
 -- A refusal changes nothing.
-abbrev pub unchanged : {S : Type 0} → Code → S → Given S
-unchanged code before = gives code 0 before
+abbrev pub unchanged : {S : Type 0} → Refusal → S → Given S
+unchanged refusal before = gives (Refused refusal) 0 before
 
 -- A refusal of a step: only a message out of turn is taken off its lane.
-abbrev pub takes_off : Code → Bool
-takes_off code = number code == number (Refused OutOfTurn)
+abbrev pub takes_off : Refusal → Bool
+takes_off refusal = number (Refused refusal) == number (Refused OutOfTurn)
 
 -- The entry of a record that was never opened.
 abbrev pub blank : Entry
@@ -69,12 +70,12 @@ up_taken home t =
 -- What the home does with a message, by its kind; shut, so that what stands above need not look inside. An opcode of no kind is
 -- out of turn.
 unfoldable pub answered : Option Kind → Scene → ℕ → ℕ → ℕ → Ruling
-answered None s r t v = refuses (Refused OutOfTurn)
+answered None s r t v = refuses OutOfTurn
 answered (Some kind) s r t v = ruled kind s r t v
 
 -- The home carries out a ruling on a message about record r from up lane t: one entry changes, and no other.
 abbrev pub settled : Home → ℕ → ℕ → Ruling → Given Home
-settled home t r (refuses code) = unchanged code (cond (takes_off code) (up_taken home t) home)
+settled home t r (refuses refusal) = unchanged refusal (cond (takes_off refusal) (up_taken home t) home)
 settled home t r (accepts entry holders waiting) =
     gives Accepted 0
     (record {
@@ -89,12 +90,12 @@ settled home t r (accepts entry holders waiting) =
 -- A message about a record that the site has not is out of turn.
 abbrev pub message_taken : Home → ℕ → Message → Given Home
 message_taken home t m =
-    given (nat_lt m.«record» home.records) (settled home t m.«record» (refuses (Refused OutOfTurn)))
+    given (nat_lt m.«record» home.records) (settled home t m.«record» (refuses OutOfTurn))
     (settled home t m.«record»
     (answered (kind_of m.opcode) (scene_at home m.«record») m.«record» t m.value))
 
 abbrev pub head_taken : Home → ℕ → Option Message → Given Home
-head_taken home t None = unchanged (Refused Empty) home
+head_taken home t None = unchanged Empty home
 head_taken home t (Some m) = message_taken home t m
 
 -- Do the parts serve as many records and terminals as the site has?
@@ -106,6 +107,6 @@ parts_serve home =
 -- A home step on up lane t.
 abbrev pub home_step : Home → ℕ → Given Home
 home_step home t =
-    given (parts_serve home) (unchanged (Refused Unfit) home)
-    (given (nat_lt t home.terminals) (unchanged (Refused NoSuchTerminal) home)
+    given (parts_serve home) (unchanged Unfit home)
+    (given (nat_lt t home.terminals) (unchanged NoSuchTerminal home)
     (head_taken home t (oldest home.up t)))

@@ -1,7 +1,7 @@
 -- The opening of a site.
 use Rattle.std.specs.Prelude.{ℕ, zero, suc, ◌*◌, Bool, not, ◌&&◌, List, length, nat_eq, nat_le, nat_lt, slice_index, slice_set}
 use Rattle.message.specs.declared.refusals.Refusal.TheVariants.{Unfit}
-use Rattle.protocol.specs.declared.Code.TheVariants.{Accepted, Refused}
+use Rattle.protocol.specs.declared.Code.TheVariants.{Accepted}
 use Rattle.message.specs.Checks.{given}
 use Rattle.directory.specs.Directories.{Holders, size_fits}
 use Rattle.directory.specs.Changes.{with_holders}
@@ -98,5 +98,5 @@ opened site sizes values =
 -- Open: a site as it stands, with the row and the parts that the caller hands in, is opened anew.
 unfoldable pub opening : Site → Sizes → List ℕ → Given Site
 opening site sizes values =
-    given (may_open site sizes values) (unchanged (Refused Unfit) site)
+    given (may_open site sizes values) (unchanged Unfit site)
     (gives Accepted 0 (opened site sizes values))
