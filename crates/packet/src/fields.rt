@@ -1,6 +1,6 @@
 // The header of a packet and the halves of a value, by shifts and masks.
 ghost use Rattle.std.specs.Prelude.{◌≡◌, ◌/◌, ◌%◌, ◌^◌};
-ghost use Rattle.packet.specs.Headers.{header_in};
+ghost use Rattle.packet.specs.Headers.{ReadsHeader};
 ghost use Rattle.packet.specs.Layout.{header, source_fits, value_in};
 
 use message::{Kind, Refusal};
@@ -23,8 +23,9 @@ impl From<Header> for u32 {
 impl TryFrom<u32> for Header {
     type Error = Refusal;
 
-    ghost try_from_gives = { λ word answer. answer ≡ header_in word };
+    ghost try_from_gives = { ReadsHeader };
 
+    /// The header that a word is, of which `u32::from` makes that word again.
     fn try_from(word: u32) -> Result<Header, Refusal> {
         let kind = Kind::try_from((word & 0xff) as u8).map_err(|_| Refusal::UnknownOpcode)?;
         if (word >> 8 & 0xff) as usize != kind.words() {
