@@ -92,7 +92,8 @@ impl<'a> Reader<'a> {
     pub fn place(&self) -> usize
         ensures { result ≡ self.now.at }
     {
-        self.at
+        let Reader { at, .. } = *self;
+        at
     }
 
     /// Whether it has come to the end of the words.
