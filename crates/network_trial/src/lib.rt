@@ -10,6 +10,7 @@ mod tests {
     use ring::Ring;
     use slot_network::SlotNetwork;
     use std::process::Abort;
+    use std::test::Fail;
 
     // What a network shows: its answer to a call, and then how many messages wait in the lane, and the oldest of them.
     #[derive(Clone, Copy, PartialEq, Eq, Debug)]
@@ -104,7 +105,7 @@ mod tests {
 
     // Sizes that do not fit are refused, and what fits is made.
     #[test]
-    fn over(rt: HostRuntime) {
+    fn over(rt: HostRuntime) -> Result<(), Fail> {
         let mut slots = [BLANK; 4];
         let mut words = [7; 16];
         assert_eq!(rt;
@@ -115,12 +116,11 @@ mod tests {
             PacketNetwork::over(&mut words, 0, 2).err(),
             Some(Refusal::Unfit)
         );
-        if let Ok(mut net) = SlotNetwork::over(&mut slots, 2, 2) {
-            wraps(&rt, &mut net);
-        }
-        if let Ok(mut net) = PacketNetwork::over(&mut words, 2, 2) {
-            wraps(&rt, &mut net);
-        }
+        let mut by_slots = SlotNetwork::over(&mut slots, 2, 2).map_err(|_| Fail::new("slots"))?;
+        wraps(&rt, &mut by_slots);
+        let mut by_packets = PacketNetwork::over(&mut words, 2, 2).map_err(|_| Fail::new("words"))?;
+        wraps(&rt, &mut by_packets);
+        Ok(())
     }
 
     // A ring of no slots is full and empty at once.
