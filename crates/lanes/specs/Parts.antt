@@ -12,7 +12,7 @@ use Rattle.ring.specs.declared.Span.{Span}
 abbrev pub part : {X : Type 0} → List X → ℕ → ℕ → List X
 part slots size l = between (l * size) (l * size + size) slots
 
--- Is the lane there? Then the numbers of its slots.
+-- Is the lane there? Then the numbers of its slots. This is what an inner function says; no public promise rests on it.
 abbrev pub part_answer : ℕ → ℕ → ℕ → Result (Range ℕ) Refusal
 part_answer count size l =
     given (nat_lt l count) (Err NoSuchTerminal)

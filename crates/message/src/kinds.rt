@@ -66,19 +66,9 @@ impl From<Kind> for u8 {
 impl fmt::Display for Kind {
     ghost output = { λ kind. Some (mnemonic_of kind) };
 
-    /// Its short name, as listings show it.
+    /// Writes its short name.
     fn fmt<W: fmt::Write>(&self, f: &mut fmt::Formatter<W>) -> fmt::Result {
-        f.write_str(match *self {
-            Kind::ReadRequest => "RREQ",
-            Kind::WriteRequest => "WREQ",
-            Kind::Replacement => "REPM",
-            Kind::Update => "UPDATE",
-            Kind::Acknowledgement => "ACKC",
-            Kind::ReadData => "RDATA",
-            Kind::WriteData => "WDATA",
-            Kind::Invalidate => "INV",
-            Kind::Busy => "BUSY",
-        })
+        f.write_str(self.mnemonic())
     }
 }
 
@@ -112,5 +102,22 @@ impl Kind {
         ensures { result ≡ words_of self }
     {
         if self.carries_value() { 4 } else { 2 }
+    }
+
+    /// Its short name, as listings show it.
+    pub fn mnemonic(self) -> &'static str
+        ensures { result.now ≡ mnemonic_of self }
+    {
+        match self {
+            Kind::ReadRequest => "RREQ",
+            Kind::WriteRequest => "WREQ",
+            Kind::Replacement => "REPM",
+            Kind::Update => "UPDATE",
+            Kind::Acknowledgement => "ACKC",
+            Kind::ReadData => "RDATA",
+            Kind::WriteData => "WDATA",
+            Kind::Invalidate => "INV",
+            Kind::Busy => "BUSY",
+        }
     }
 }

@@ -1,4 +1,4 @@
--- What headers say.
+-- What the inner functions say of headers. No public promise rests on this page.
 use Rattle.std.specs.Prelude.{◌≡◌, ℕ, Some, None, Ok, Err, Option, Result, ◌==◌, option_map, IfOk}
 use Rattle.message.specs.declared.kinds.Kind.{Kind}
 use Rattle.message.specs.declared.refusals.Refusal.{Refusal}

@@ -18,7 +18,8 @@ over rows v = with_holders v (λ r t. pointed v (row_of rows r).numbers r t || v
 abbrev pub layer_view : {D : Type 0} → (D → View) → Pointers D → View
 layer_view view p = over p.table.rows (view p.below)
 
--- The row of a record in a table, or one with all places free where the directory below does not serve the record.
+-- The row of a record in a table, or one with all places free where the directory below does not serve the record. This is what an
+-- inner function says; no public promise rests on it.
 abbrev pub served_row : List Row → View → ℕ → Row
 served_row rows v r = cond (nat_lt r v.records) (row_of rows r) free_row
 

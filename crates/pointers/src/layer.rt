@@ -57,7 +57,7 @@ impl<D: Directory> Pointers<D> {
     }
 }
 
-// The four numbers are added below.
+// The four numbers are added below, whatever each add answers.
 fn spill<D: Directory>(d: &mut D, r: usize, numbers: [usize; 4])
     ensures after { D.Directory.view d.new ≡ spilled (D.Directory.view d.old) r numbers }
 {

@@ -7,7 +7,7 @@ use Rattle.message.specs.declared.refusals.Refusal.TheVariants.{Empty, OutOfTurn
 use Rattle.protocol.specs.declared.Code.TheVariants.{Accepted, Refused}
 use Rattle.message.specs.declared.kinds.Kind.{Kind}
 use Rattle.message.specs.Checks.{given}
-use Rattle.protocol.specs.Codes.{number}
+use Rattle.message.specs.Refusals.{number}
 use Rattle.message.specs.Kinds.{kind_of}
 use Rattle.directory.specs.Directories.{View}
 use Rattle.directory.specs.Changes.{with_holders}
@@ -41,7 +41,7 @@ unchanged refusal before = gives (Refused refusal) 0 before
 
 -- A refusal of a step: only a message out of turn is taken off its lane.
 abbrev pub takes_off : Refusal → Bool
-takes_off refusal = number (Refused refusal) == number (Refused OutOfTurn)
+takes_off refusal = number refusal == number OutOfTurn
 
 -- The entry of a record that was never opened.
 abbrev pub blank : Entry

@@ -55,6 +55,7 @@ pub fn rewrite(words: &[u32], out: &mut [u32]) -> Result<usize, Fault>
     while !reader.is_at_end() {
         let at = reader.place();
         let found = reader.next()?;
+        // What was read can be sent, and the buffer has room for it, so this is not refused.
         let _ = write_at(found.packet, out, at);
         count += 1;
     }
