@@ -2,7 +2,8 @@
 use Rattle.std.specs.Prelude.{◌≡◌, ℕ, Bool, true, false, cond, List, [], ◌∷◌, Some, None, codes, Option, ◌==◌, Result, IfOk}
 use Rattle.std.specs.Option.{ok_or}
 use Rattle.message.specs.declared.kinds.Kind.{Kind}
-use Rattle.message.specs.declared.kinds.UnknownOpcode.{UnknownOpcode}
+use Rattle.message.specs.declared.refusals.Refusal.{Refusal}
+use Rattle.message.specs.declared.refusals.Refusal.TheVariants.{UnknownOpcode}
 use Rattle.message.specs.declared.kinds.Kind.TheVariants.{ReadRequest, WriteRequest, Replacement, Update, Acknowledgement, ReadData, WriteData, Invalidate, Busy}
 
 -- The opcode of a kind.
@@ -31,8 +32,8 @@ abbrev pub kind_of : ℕ → Option Kind
 kind_of opcode = kind_among all_kinds opcode
 
 -- What reading an opcode answers: the kind with it, of which it is the opcode again, or that it is the number of no kind.
-pub record Decodes (opcode : ℕ) (answer : Result Kind UnknownOpcode) : Type 0 where
-  pub value : answer ≡ ok_or (kind_of opcode) (record { 0 = opcode })
+pub record Decodes (opcode : ℕ) (answer : Result Kind Refusal) : Type 0 where
+  pub value : answer ≡ ok_or (kind_of opcode) UnknownOpcode
   pub back : IfOk answer (λ kind. opcode_of kind ≡ opcode)
 
 -- What writing a kind as a number gives: its opcode, which is read as that kind again.

@@ -2,6 +2,7 @@
 ghost use Rattle.std.specs.Prelude.{◌≡◌, Some};
 ghost use Rattle.message.specs.Kinds.{Encodes, Decodes, carries_value, goes_home, words_of, mnemonic_of};
 
+use crate::Refusal;
 use std::fmt;
 
 /// A kind of message. The first five go to the home, the others come from it.
@@ -18,17 +19,13 @@ pub enum Kind {
     Busy,
 }
 
-/// An opcode that is the number of no kind.
-#[derive(Clone, Copy, PartialEq, Eq, Debug)]
-pub struct UnknownOpcode(pub u8);
-
 impl TryFrom<u8> for Kind {
-    type Error = UnknownOpcode;
+    type Error = Refusal;
 
     ghost try_from_gives = { Decodes };
 
     /// The kind with an opcode, which `u8::from` turns back into it.
-    fn try_from(opcode: u8) -> Result<Kind, UnknownOpcode> {
+    fn try_from(opcode: u8) -> Result<Kind, Refusal> {
         match opcode {
             1 => Ok(Kind::ReadRequest),
             2 => Ok(Kind::WriteRequest),
@@ -39,7 +36,7 @@ impl TryFrom<u8> for Kind {
             7 => Ok(Kind::WriteData),
             8 => Ok(Kind::Invalidate),
             9 => Ok(Kind::Busy),
-            _ => Err(UnknownOpcode(opcode)),
+            _ => Err(Refusal::UnknownOpcode),
         }
     }
 }

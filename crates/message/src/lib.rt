@@ -9,7 +9,7 @@ ghost use Rattle.message.specs.Messages.{message_of, well_formed};
 mod kinds;
 mod refusals;
 
-pub use kinds::{Kind, UnknownOpcode};
+pub use kinds::Kind;
 pub use refusals::{Refusal, code_of};
 
 /// A message. Its opcode is a plain number, and its record any 32-bit number, so that a malformed message can be

@@ -27,7 +27,7 @@ impl TryFrom<u32> for Header {
 
     /// The header that a word is, of which `u32::from` makes that word again.
     fn try_from(word: u32) -> Result<Header, Refusal> {
-        let kind = Kind::try_from((word & 0xff) as u8).map_err(|_| Refusal::UnknownOpcode)?;
+        let kind = Kind::try_from((word & 0xff) as u8)?;
         if (word >> 8 & 0xff) as usize != kind.words() {
             return Err(Refusal::WrongLength);
         }

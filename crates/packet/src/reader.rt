@@ -1,23 +1,22 @@
 // The reader: the packet at a place among words, taken apart by its kind.
 ghost use Rattle.std.specs.Prelude.{◌≡◌, ◌+◌, ◌^◌, ◌<◌, length, drop, IfOk, nat_le, MatchOption, ◌≤◌};
 ghost use Rattle.message.specs.Kinds.{words_of};
-ghost use Rattle.message.specs.Messages.{message_of};
 ghost use Rattle.packet.specs.Reading.{Handed, answer, front_packet, packet_at, place_after, said};
 
 use crate::fields::{Halves, Header};
 use crate::{Fault, Found, Packet};
 use message::{Kind, Message, Refusal};
 
-/// The record and the value in a packet of a kind at the front of words, where all words of the packet are there.
-fn record_and_value(kind: Kind, front: &[u32]) -> Option<(u32, u64)>
+/// The message in a packet of a kind at the front of words, where all words of the packet are there.
+fn message_in(kind: Kind, front: &[u32]) -> Option<Message>
     ensures { MatchOption result (length front.now < words_of kind)
-        (λ (about, value). (words_of kind ≤ length front.now) × (message_of kind about value ≡ (said kind front.now).message)) }
+        (λ message. (words_of kind ≤ length front.now) × (message ≡ (said kind front.now).message)) }
 {
     match *front {
         [_, record, low, high, ..] if kind.carries_value() => {
-            Some((record, u64::from(Halves { low, high })))
+            Some(Message::new(kind, record, u64::from(Halves { low, high })))
         }
-        [_, record, ..] if !kind.carries_value() => Some((record, 0)),
+        [_, record, ..] if !kind.carries_value() => Some(Message::new(kind, record, 0)),
         _ => None,
     }
 }
@@ -35,14 +34,14 @@ fn read_front(front: &[u32], at: usize) -> Result<Found<'_>, Fault>
     let head = *front.first().ok_or(missing)?;
     let header = Header::try_from(head).map_err(|refusal| Fault { refusal, place: at })?;
     let Header { kind, source } = header;
-    let (record, value) = record_and_value(kind, front).ok_or(missing)?;
+    let message = message_in(kind, front).ok_or(missing)?;
     if !header.source_fits() {
         return Err(Fault {
             refusal: Refusal::WrongSource,
             place: at,
         });
     }
-    if record > 63 {
+    if message.record > 63 {
         return Err(Fault {
             refusal: Refusal::UnknownRecord,
             place: at + 1,
@@ -50,10 +49,7 @@ fn read_front(front: &[u32], at: usize) -> Result<Found<'_>, Fault>
     }
     Ok(Found {
         kind,
-        packet: Packet {
-            source,
-            message: Message::new(kind, record, value),
-        },
+        packet: Packet { source, message },
         words: &front[..kind.words()],
     })
 }
