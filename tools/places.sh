@@ -30,8 +30,8 @@ twice '2 names of functions that are defined twice' 'fn [a-z_]+' 2
 places '3 loops over numbers, and loops with a condition' '^ *(while |loop |for [a-z_]+ in [0-9a-z_.]+\.\.)'
 places '4a conversions and printing by hand' 'fn (of|opcode|number|mnemonic|is_accepted|digit_of|header_of|opcode_in|length_in|source_in|low_half|high_half|value_in|counting_from|lower)\('
 places '4b casts' ' as (u8|u16|u32|u64|usize)\b'
-twice '5a clauses that stand three times or more' '(requires|ensures) [a-z_]+ \{.*\}' 3
-places '5b parameters that travel together' 'fn .*\((.*, )?(out: &mut \[u32\], (at|count)|start: usize, (k|count)|lanes: usize, depth: usize|count: usize, size: usize)'
+twice '5a clauses that stand three times or more' '(requires|ensures)( [a-z_]+)? \{.*\}' 3
+places '5b parameters that travel together' '(out: &mut \[u32\], (at|count)|start: usize, (k|count)|lanes: usize, depth: usize|count: usize, size: usize|^ *lanes: usize,$)'
 places '6 arrays of a fixed length, and buffers that are lent to be written' '\[[A-Za-z0-9_: {}]+; ?[0-9]+\]|&(.a )?mut \['
 places '7 enums of steps, and switches on them' 'enum (Stage|Call)\b|match (self\.stage|call)\b'
 proofs '8a answers' '/Answers\.antt$' ': goal\.'
