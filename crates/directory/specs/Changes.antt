@@ -17,6 +17,10 @@ joined h r t q u = (q == r && u == t) || h q u
 abbrev pub emptied : Holders → ℕ → Holders
 emptied h r q u = not (q == r) && h q u
 
+-- The record and then the terminal must be served.
+abbrev pub served_answer : View → ℕ → ℕ → Answer
+served_answer v r t = given (nat_lt r v.records) (Err NoSuchRecord) (given (nat_lt t v.terminals) (Err NoSuchTerminal) accepted)
+
 -- Add: the record and then the terminal must be served; a holder is accepted again, another terminal below the limit.
 abbrev pub add_answer : View → ℕ → ℕ → Answer
 add_answer v r t =

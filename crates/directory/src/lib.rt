@@ -4,7 +4,7 @@
 
 ghost use Rattle.std.specs.Prelude.{◌≡◌};
 ghost use Rattle.directory.specs.Directories.{View, Sound, count, next};
-ghost use Rattle.directory.specs.Changes.{add_answer, added, clear_answer, cleared};
+ghost use Rattle.directory.specs.Changes.{add_answer, added, clear_answer, cleared, served_answer};
 
 use message::Refusal;
 
@@ -46,6 +46,19 @@ pub trait Directory {
     /// How many holders a record may come to have.
     fn limit(&self) -> usize
         ensures answer { result ≡ (view self.now).limit };
+
+    /// Whether record `r` and terminal `t` are served; else the refusal, that of the record first.
+    fn check_served(&self, r: usize, t: usize) -> Result<(), Refusal>
+        ensures answer { result ≡ served_answer (view self.now) r t }
+    {
+        if r >= self.records() {
+            return Err(Refusal::NoSuchRecord);
+        }
+        if t >= self.terminals() {
+            return Err(Refusal::NoSuchTerminal);
+        }
+        Ok(())
+    }
 
     ghost sound: { (d : Self) → Sound (view d) };
 }

@@ -1,14 +1,12 @@
 -- What the calls over any directory do.
-use Rattle.std.specs.Prelude.{ℕ, cond, None, Option, ◌==◌, nat_lt, Err, is_ok}
-use Rattle.message.specs.Refusals.{Answer, accepted}
-use Rattle.message.specs.declared.refusals.Refusal.TheVariants.{NoSuchTerminal, NoSuchRecord}
-use Rattle.message.specs.Checks.{given}
+use Rattle.std.specs.Prelude.{ℕ, cond, None, Option, ◌==◌, is_ok}
+use Rattle.message.specs.Refusals.{Answer}
 use Rattle.directory.specs.Directories.{Holders, View, count, next}
-use Rattle.directory.specs.Changes.{with_holders}
+use Rattle.directory.specs.Changes.{served_answer, with_holders}
 
 -- A hand-over: the record and then the terminal must be served.
 abbrev pub hand_over_answer : View → ℕ → ℕ → Answer
-hand_over_answer v r t = given (nat_lt r v.records) (Err NoSuchRecord) (given (nat_lt t v.terminals) (Err NoSuchTerminal) accepted)
+hand_over_answer v r t = served_answer v r t
 
 -- Terminal t alone holds record r; the sets of other records stay.
 abbrev pub alone : Holders → ℕ → ℕ → Holders

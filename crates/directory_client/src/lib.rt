@@ -13,12 +13,7 @@ pub fn hand_over<D: Directory>(d: &mut D, r: usize, t: usize) -> Result<(), Refu
     ensures answer { result ≡ hand_over_answer (D.Directory.view d.old) r t }
     ensures after { D.Directory.view d.new ≡ handed_over (D.Directory.view d.old) r t }
 {
-    if r >= d.records() {
-        return Err(Refusal::NoSuchRecord);
-    }
-    if t >= d.terminals() {
-        return Err(Refusal::NoSuchTerminal);
-    }
+    d.check_served(r, t)?;
     d.clear(r)?;
     d.add(r, t)
 }

@@ -54,12 +54,7 @@ impl Directory for FullMap {
         } };
 
     fn add(&mut self, r: usize, t: usize) -> Result<(), Refusal> {
-        if r >= self.records {
-            return Err(Refusal::NoSuchRecord);
-        }
-        if t >= self.terminals {
-            return Err(Refusal::NoSuchTerminal);
-        }
+        self.check_served(r, t)?;
         self.words[r] |= 1 << t;
         Ok(())
     }

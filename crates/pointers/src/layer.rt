@@ -72,12 +72,7 @@ impl<D: Directory> Directory for Pointers<D> {
     ghost sound = { Prim.search rules };
 
     fn add(&mut self, r: usize, t: usize) -> Result<(), Refusal> {
-        if r >= self.below.records() {
-            return Err(Refusal::NoSuchRecord);
-        }
-        if t >= self.below.terminals() {
-            return Err(Refusal::NoSuchTerminal);
-        }
+        self.below.check_served(r, t)?;
         if self.holds(r, t) {
             return Ok(());
         }

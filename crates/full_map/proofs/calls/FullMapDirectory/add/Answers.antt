@@ -24,7 +24,8 @@ returns c =
     let r = c.args.r in
     let t = c.args.t in
     let v : View = map_view m in
-    let e : add_answer v r t ≡ accepted = accepts m.words m.records m.terminals r t (omega arith) (omega arith) (omega arith) in
+    let served : (r < m.records) × (t < m.terminals) = (grind (arith, nat_tests), grind (arith, nat_tests)) in
+    let e : add_answer v r t ≡ accepted = accepts m.words m.records m.terminals r t served.0 served.1 (omega arith) in
     record {
       answer = sym e;
       after = ap (with_holders v) (fun_ext (λ q. fun_ext (λ u. let a = bit_set (slice_index m.words r) t u (omega arith) in grind (arith, nat_tests, common_steps))));
@@ -33,5 +34,6 @@ returns c =
 pub invariant_of-self : goal.invariant_of-self
 invariant_of-self c =
     let m = c.args.self.now in
-    let small = set_lt (slice_index m.words c.args.r) m.terminals c.args.t (m.narrow c.args.r) (omega arith) (omega arith) in
+    let served : c.args.t < m.terminals = grind (arith, nat_tests) in
+    let small = set_lt (slice_index m.words c.args.r) m.terminals c.args.t (m.narrow c.args.r) (omega arith) served in
     record { sizes = m.sizes; narrow = λ q. grind (arith, common_steps, m.narrow q); unused = λ q l. grind (arith, common_steps) }
