@@ -1,17 +1,25 @@
 -- The union of some pointers and the holders below, at one record.
-use Rattle.std.proofs.Common.{◌≡◌, ℕ, ◌+◌, ◌<◌, ◌≤◌, Bool, true, false, not, ◌&&◌, ◌||◌, ◌++◌, eqb, nat_lt, nat_le, filter, length, List, [], ◌∷◌, Some, None, Option, min, sym, refl, ap, ◌∙◌, ◌⊎◌, inl, inr, arith}
+use Rattle.std.proofs.Common.{◌≡◌, ℕ, ◌+◌, ◌<◌, ◌≤◌, Bool, true, false, cond, not, ◌&&◌, ◌||◌, ◌++◌, eqb, nat_lt, nat_le, filter, length, List, [], ◌∷◌, Some, None, Option, min, sym, refl, ap, ◌∙◌, ◌⊎◌, inl, inr, arith}
 use Rattle.std.proofs.Math.Path.{fun_ext}
 use Rattle.std.specs.List.{reduce, fold}
 use Rattle.std.specs.Option.{option_to_list}
 use Rattle.std.proofs.lemmas.Bool.{cases_lt, cases_Bool, lt-ltb, le-ltb}
 use Rattle.std.proofs.lemmas.Bool.Decides.{nat_tests}
 use Rattle.directory.specs.Sets.{tally, least}
-use Rattle.directory.specs.Directories.{View, count, next}
+use Rattle.directory.specs.Directories.{Sound, View, count, next}
 use Rattle.directory.proofs.Counting.{tally_more}
 use Rattle.directory.proofs.Finding.{least_more, least_less, lesser}
 use Rattle.pointers.specs.declared.rows.Row.{Row}
 use Rattle.pointers.specs.Rows.{apart, row_of, free_row}
-use Rattle.pointers.specs.Layers.{pointed, over, served_row}
+use Rattle.pointers.specs.Layers.{pointed, over}
+
+-- the row of a record in a table, or one with all places free where the directory below does not serve the record
+abbrev pub served_row : List Row → View → ℕ → Row
+served_row rows v r = cond (nat_lt r v.records) (row_of rows r) free_row
+
+-- the row that a served record has
+pub row_found : (rows : List Row) (v : View) (r : ℕ) (row : Row) → cond (nat_lt r v.records) (Some (row_of rows r)) None ≡ Some row → served_row rows v r ≡ row
+row_found rows v r row e = grind (arith, nat_tests)
 
 abbrev pub union : View → List ℕ → ℕ → ℕ → Bool
 union v xs r u = pointed v xs r u || v.holders r u
@@ -19,6 +27,13 @@ union v xs r u = pointed v xs r u || v.holders r u
 -- where the record is not served they are the holders below
 union_unserved : (v : View) (xs : List ℕ) (r : ℕ) → v.records ≤ r → union v xs r ≡ v.holders r
 union_unserved v xs r h = fun_ext (λ u. grind (arith, nat_tests))
+
+-- and then there are none
+pub unserved : (v : View) (xs : List ℕ) (r u : ℕ) → Sound v → v.records ≤ r → union v xs r u ≡ false
+unserved v xs r u s h = by (cases_Bool (v.holders r u)) where
+  by : (v.holders r u ≡ true) ⊎ (v.holders r u ≡ false) → union v xs r u ≡ false
+  by (inl e) = let served = s.served r u e in grind (arith, nat_tests)
+  by (inr e) = grind (arith, nat_tests)
 
 union_none : (v : View) (r : ℕ) → union v [] r ≡ v.holders r
 union_none v r = fun_ext (λ u. grind (arith, nat_tests))

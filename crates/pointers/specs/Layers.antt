@@ -1,8 +1,8 @@
 -- Pointers over another directory.
-use Rattle.std.specs.Prelude.{ℕ, Bool, cond, ◌&&◌, ◌||◌, List, [], ◌∷◌, Some, None, Option, nat_lt}
+use Rattle.std.specs.Prelude.{ℕ, Bool, ◌&&◌, ◌||◌, List, [], ◌∷◌, Some, None, Option, nat_lt}
 use Rattle.directory.specs.Directories.{View}
 use Rattle.directory.specs.Changes.{added, with_holders}
-use Rattle.pointers.specs.Rows.{has, row_of, free_row}
+use Rattle.pointers.specs.Rows.{has, row_of}
 use Rattle.pointers.specs.declared.rows.Row.{Row}
 use Rattle.pointers.specs.declared.layer.Pointers.{Pointers}
 
@@ -17,11 +17,6 @@ over rows v = with_holders v (λ r t. pointed v (row_of rows r).numbers r t || v
 -- What pointers over a directory mean, by what the directory below means.
 abbrev pub layer_view : {D : Type 0} → (D → View) → Pointers D → View
 layer_view view p = over p.table.rows (view p.below)
-
--- The row of a record in a table, or one with all places free where the directory below does not serve the record. This is what an
--- inner function says; no public promise rests on it.
-abbrev pub served_row : List Row → View → ℕ → Row
-served_row rows v r = cond (nat_lt r v.records) (row_of rows r) free_row
 
 -- Each number in turn is added below.
 abbrev pub spilled : View → ℕ → List ℕ → View

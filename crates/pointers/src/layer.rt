@@ -1,7 +1,7 @@
 // Pointers over another directory.
-ghost use Rattle.std.specs.Prelude.{◌≡◌, ◌<◌, false, slice_set};
+ghost use Rattle.std.specs.Prelude.{◌≡◌, ◌<◌, false, slice_set, cond, nat_lt, Some, None};
 ghost use Rattle.pointers.specs.Rows.{row_of, has, placed};
-ghost use Rattle.pointers.specs.Layers.{layer_view, served_row, spilled, sent};
+ghost use Rattle.pointers.specs.Layers.{layer_view, spilled, sent};
 ghost use Rattle.std.proofs.Common.{rules};
 
 use crate::rows::Row;
@@ -28,16 +28,15 @@ impl<D: Directory> Pointers<D> {
         }
     }
 
-    // The row of a record, with all places free where the record is not served.
-    fn row(&self, r: usize) -> Row
+    // The row of a record, or none where the record is not served.
+    fn row(&self, r: usize) -> Option<Row>
         ensures value { result
-            ≡ served_row self.now.table.rows (D.Directory.view self.now.below) r }
+            ≡ cond (nat_lt r (D.Directory.view self.now.below).records) (Some (row_of self.now.table.rows r)) None }
     {
-        if r < self.below.records() {
-            self.table.row(r)
-        } else {
-            Row::free()
+        if r >= self.below.records() {
+            return None;
         }
+        Some(self.table.row(r))
     }
 
     // Places a new holder, and sends below what makes way for it.
@@ -90,12 +89,17 @@ impl<D: Directory> Directory for Pointers<D> {
     }
 
     fn holds(&self, r: usize, t: usize) -> bool {
-        t < self.below.terminals() && (self.row(r).has(t) || self.below.holds(r, t))
+        let Some(row) = self.row(r) else {
+            return false;
+        };
+        t < self.below.terminals() && (row.has(t) || self.below.holds(r, t))
     }
 
     fn count(&self, r: usize) -> usize {
+        let Some(row) = self.row(r) else {
+            return 0;
+        };
         let terminals = self.below.terminals();
-        let row = self.row(r);
         let above = row
             .numbers
             .iter()
@@ -105,8 +109,8 @@ impl<D: Directory> Directory for Pointers<D> {
     }
 
     fn next(&self, r: usize, t: usize) -> Option<usize> {
+        let row = self.row(r)?;
         let served = t..self.below.terminals();
-        let row = self.row(r);
         row.numbers
             .iter()
             .copied()

@@ -1,13 +1,20 @@
-use Rattle.std.proofs.Common.{rules, ◌≡◌, arith}
+use Rattle.std.proofs.Common.{rules, ◌≡◌, ◌≤◌, sym, arith}
+use Rattle.std.proofs.lemmas.Bool.Decides.{nat_tests}
 use Rattle.std.proofs.iter.runs.Made.{chains}
 use Rattle.std.specs.List.{count_by}
 use Rattle.std.proofs.lemmas.List.Sums.{length-filter}
 use Rattle.directory.specs.Directories.{View}
-use Rattle.directory.proofs.Counting.{tally_le}
+use Rattle.directory.proofs.Counting.{tally_le, tally_none}
 use Rattle.pointers.specs.declared.rows.Row.{Row}
-use Rattle.pointers.specs.Layers.{served_row}
-use Rattle.pointers.proofs.Unions.{fresh, count_over}
+use Rattle.pointers.proofs.Unions.{fresh, count_over, served_row, unserved}
 use Rattle.pointers.proofs.layer.PointersDirectory.count.Goals as goal
+
+pub returns-in_default : goal.returns-in_default
+returns-in_default g c =
+    let p = c.args.self.now in
+    let v : View = g.D.Directory.view p.below in
+    let absent : v.records ≤ c.args.r = grind (arith, nat_tests) in
+    record { answer = sym (tally_none _ 64 (λ u. unserved v _ c.args.r u (g.met.D.Directory.sound p.below) absent)) }
 
 pub returns : goal.returns
 returns g c =
