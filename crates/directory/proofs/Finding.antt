@@ -1,8 +1,9 @@
 -- Least members of sets of numbers.
-use Rattle.std.proofs.Common.{◌≡◌, ℕ, zero, suc, ◌+◌, ◌<◌, ◌≤◌, Bool, true, false, cond, ◌||◌, eqb, ltb, Some, None, Option, refl, ap, ◌∙◌, ⊎_elim, arith}
+use Rattle.std.proofs.Common.{◌≡◌, ℕ, zero, suc, ◌+◌, ◌<◌, ◌≤◌, Bool, true, false, cond, ◌||◌, eqb, ltb, Some, None, Option, refl, ap, ◌∙◌, subst, ⊎_elim, arith}
 use Rattle.std.proofs.lemmas.Bool.{cases_eq, cases_lt}
 use Rattle.std.proofs.lemmas.Bool.Decides.{nat_tests}
 use Rattle.directory.specs.Sets.{least}
+use Rattle.directory.specs.Directories.{Sound, View, next}
 
 -- a number is the least member among the n from s on, or there is none
 abbrev pub Found : (ℕ → Bool) → ℕ → ℕ → Option ℕ → Type 0
@@ -58,3 +59,9 @@ pub least_less : (p : ℕ → Bool) (s n t : ℕ) → t < s → least (λ u. eqb
 unfolding least
 least_less p s zero t h = refl
 least_less p s (suc n) t h = let e = least_less p (s + 1) n t (omega arith) in grind (arith, nat_tests)
+
+-- The next holder is one, and served, and not below where it was looked for.
+pub next_holder : (v : View) (r t u : ℕ) → Sound v → next v r t ≡ Some u → (t ≤ u) × (u < v.terminals) × (v.holders r u ≡ true)
+next_holder v r t u s e =
+    let f : Found (v.holders r) t 64 (Some u) = subst (Found (v.holders r) t 64) e (found (v.holders r) t 64) in
+    (f.0, (s.served r u f.2).1, f.2)

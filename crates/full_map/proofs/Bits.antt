@@ -34,11 +34,11 @@ ones_tally (suc k) w h =
       lowest = let a = bit_at_lowest w in let b = bit_at-lt w 0 in grind (arith, nat_tests)
 
 -- `u64::MAX << t`
-abbrev from : ℕ → ℕ
+abbrev pub from : ℕ → ℕ
 from t = (2 ^ 64 - 1) * 2 ^ t % 2 ^ 64
 
 -- the bits below t go, and the others stay
-masked : (w t u : ℕ) → t < 64 → w < 2 ^ 64 → bit (bit_and w (from t)) u ≡ (nat_le t u && bit w u)
+pub masked : (w t u : ℕ) → t < 64 → w < 2 ^ 64 → bit (bit_and w (from t)) u ≡ (nat_le t u && bit w u)
 masked w t u h l =
     let e = ap (λ (m : ℕ). bit_at (bit_and w m) u) (ones_shl 64 t (omega arith)) ∙ bit_at_and w (2 ^ 64 - 2 ^ t) u in
     let digit = bit_at-lt w u in

@@ -1,2 +1,3 @@
+pub mod Sizes
 pub mod Takes
 pub mod Clients

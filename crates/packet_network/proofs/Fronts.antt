@@ -43,7 +43,7 @@ pub front_found : (p : Packet) (rest : List ℕ) → sendable p ≡ true → rea
 front_found p rest can = found_as (kind_of p.message.opcode) p rest refl can can
 
 -- The oldest message of packed words, if there is one.
-abbrev message_of : Option Packet → Option Message
+abbrev pub message_of : Option Packet → Option Message
 message_of found = option_map (λ p. p.message) found
 
 head_packed : (l : ℕ) (ms : List Message) → all_sendable (packets_in l ms) ≡ true → message_of (read_front (stream (packets_in l ms))) ≡ slice_get ms 0

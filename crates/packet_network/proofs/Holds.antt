@@ -1,7 +1,7 @@
 -- What a packet network holds of its lanes is kept by a change of one lane.
 use Rattle.std.proofs.Common.{◌≡◌, ℕ, ◌<◌, ◌≤◌, List, [], length, get_or, set, replicate, sym, refl, ap, subst, ⊎_elim, arith}
-use Rattle.std.proofs.lemmas.List.{get_or-replicate, get_or-set_other, get_or-set_same}
-use Rattle.std.proofs.lemmas.Bool.{cases_eq}
+use Rattle.std.proofs.lemmas.List.{get_or_past, get_or-replicate, get_or-set_other, get_or-set_same, length-replicate}
+use Rattle.std.proofs.lemmas.Bool.{cases_eq, cases_lt}
 use Rattle.message.specs.Lists.{with_list}
 use Rattle.message.proofs.Lists.{with_is, with_other, with_same}
 use Rattle.packet_network.specs.Holds.{Holds, Packed}
@@ -30,5 +30,13 @@ none_packed : (l n depth : ℕ) → ◌≡◌ {A = ℕ} n 0 → Packed l [] n de
 unfolding said
 none_packed l n depth zero = record { whole = refl; sendable = refl; counted = sym zero; within = omega arith }
 
-pub holds_none : (n lanes depth : ℕ) → lanes ≤ n → Holds (λ l. []) (replicate n 0) lanes depth
-holds_none n lanes depth few l there = none_packed l _ depth (get_or-replicate n l 0 0 (omega arith))
+zeros : (n l : ℕ) → ◌≡◌ {A = ℕ} (get_or (replicate n 0) l 0) 0
+zeros n l =
+    ⊎_elim (λ (inside : l < n). get_or-replicate n l 0 0 inside)
+    (λ (past : n ≤ l). let long : length {A = ℕ} (replicate n 0) ≡ n = length-replicate n _ in
+    let end : length {A = ℕ} (replicate n 0) ≤ l = omega arith in get_or_past _ l _ end)
+    (cases_lt l n)
+
+pub holds_none : (f : ℕ → List ℕ) (n lanes depth : ℕ) → ((l : ℕ) → f l ≡ []) → Holds f (replicate n 0) lanes depth
+holds_none f n lanes depth none l there =
+    subst (λ (ws : List ℕ). Packed l ws (get_or (replicate n 0) l 0) depth) (sym (none l)) (none_packed l _ depth (zeros n l))
