@@ -1,3 +1,4 @@
 pub mod Accepts
 pub mod ReadBack
+pub mod WrittenBack
 pub mod Walks
